@@ -1,0 +1,9 @@
+pub mod Bools
+pub mod Diff
+pub mod Sizes
+pub mod Tests
+pub mod Sums
+pub mod Counts
+pub mod Tables
+pub mod Refusals
+pub mod Unique

@@ -1,0 +1,4 @@
+pub mod Number
+pub mod Sum
+pub mod Table
+pub mod Refusal

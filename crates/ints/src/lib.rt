@@ -1,0 +1,53 @@
+// A number by its size and its sign; numbers in a range.
+ghost use mathlib.Core.Path.{_≡_};
+ghost use Prim.Native.Nat.{_<_};
+ghost use lib.IntN.{natAbs};
+ghost use Rattle.ints.specs.Number.{below0, signed, between};
+ghost use Rattle.ints.specs.Table.{all};
+
+// The size of a number, of the least one too.
+pub fn size(x: i64) -> u64
+    ensures { λ r. ⌜ r ≡ natAbs x ⌝ }
+{
+    if x < 0 {
+        (-(x + 1)) as u64 + 1
+    } else {
+        x as u64
+    }
+}
+
+// Whether a number is below 0.
+pub fn negative(x: i64) -> bool
+    ensures { λ r. ⌜ r ≡ below0 x ⌝ }
+{
+    x < 0
+}
+
+// The number of a sign and a size.
+pub fn with_sign(neg: bool, n: u64) -> i64
+    requires { ⌜ n < 9223372036854775808 ⌝ }
+    ensures { λ r. ⌜ r ≡ signed neg n ⌝ }
+{
+    if neg { -(n as i64) } else { n as i64 }
+}
+
+// Whether a number is low to high.
+pub fn is_between(x: i64, low: i64, high: i64) -> bool
+    ensures { λ r. ⌜ r ≡ between low high x ⌝ }
+{
+    low <= x && x <= high
+}
+
+// Whether all numbers of a list are low to high.
+pub fn all_between(list: &[i64], low: i64, high: i64) -> bool
+    ensures { λ r. ⌜ r ≡ all (between low high) (now (list .entry)) ⌝ }
+{
+    let mut i: usize = 0;
+    while i < list.len() {
+        if !is_between(list[i], low, high) {
+            return false;
+        }
+        i += 1;
+    }
+    true
+}
