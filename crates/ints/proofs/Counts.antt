@@ -6,9 +6,7 @@ use Prim.Native.Nat.{ℕ, zero, suc, _+_, _*_, _-_, _≤_, _<_}
 use native.Mathlib.Nat.{eq-or-lt-of-le, le-of-suc-le-suc, not-suc-le-zero}
 use native.Mathlib.Numerals.{add-one}
 use native.Mathlib.Omega.{arith}
-use lib.IntN.{ℤ, pos, negℤ, _+ℤ_, negℤ-+ℤ}
-use Rattle.ints.specs.Sum.{sumTo, sumN, one}
-use Rattle.ints.specs.Number.{signed}
+use Rattle.ints.specs.Sum.{sumN, one}
 
 pub sumN-zero : (f : ℕ → ℕ) → sumN f 0 ≡ 0
 unfolding sumN
@@ -67,14 +65,6 @@ one-most false = omega arith
 pub one-le : (a b : Bool) → (a ≡ true → b ≡ true) → one a ≤ one b
 one-le true b h = omega (arith, ap one (h refl))
 one-le false b h = omega arith
-
--- sums of numbers of one sign
-pub sum-signed : (b : Bool) (f : ℕ → ℕ) (n : ℕ) → sumTo (λ i. signed b (f i)) n ≡ signed b (sumN f n)
-unfolding sumTo sumN
-sum-signed true f zero = refl
-sum-signed true f (suc n) = ap (λ (z : ℤ). z +ℤ negℤ (pos (f n))) (sum-signed true f n) ∙ sym (negℤ-+ℤ (pos (sumN f n)) (pos (f n)))
-sum-signed false f zero = refl
-sum-signed false f (suc n) = ap (λ (z : ℤ). z +ℤ pos (f n)) (sum-signed false f n)
 
 -- fewer terms
 pub sumN-part : (f : ℕ → ℕ) (i n : ℕ) → i ≤ n → sumN f i ≤ sumN f n

@@ -1,6 +1,7 @@
 pub mod Bools
 pub mod Diff
 pub mod Sizes
+pub mod Signs
 pub mod Tests
 pub mod Sums
 pub mod Counts

@@ -5,7 +5,7 @@ use Prim.Native.Nat.{ℕ, zero, suc, _+_, _*_, _-_, _^_, _≤_, _<_}
 use native.Mathlib.Nat.{mul-le-mul}
 use native.Mathlib.Omega.{arith}
 use lib.Dec.{T, ltb, leb, ltb→lt, leb→le, le→leb, lt→ltb}
-use lib.IntN.{ℤ, pos, negsuc, negℤ, natAbs, subℕ, _+ℤ_, _-ℤ_, _*ℤ_, pos-ne-negsuc}
+use lib.IntN.{ℤ, pos, negsuc, negℤ, natAbs, subℕ, _+ℤ_, _-ℤ_, _*ℤ_}
 use lib.Signed.{mag, leZ, ltZ, _≤ℤ_, _<ℤ_}
 use mir.Syntax.{Width, w64}
 use mir.Val.{SFits, hbits, toZ, ofZ}
@@ -77,13 +77,6 @@ sfits-abs x h = record { sfits = omega (arith, mag-le x) }
 pub fits64 : (x : ℤ) → natAbs x < 2 ^ 63 → SFits w64 x
 fits64 x h = sfits-abs {w = w64} x h
 
--- ---- order against a literal: what a range test leaves
-
-pub abs-of-range : (x : ℤ) (k : ℕ) → negℤ (pos k) ≤ℤ x → x ≤ℤ pos k → natAbs x ≤ k
-abs-of-range (pos n) k h j = leb→le _ _ (j .le)
-abs-of-range (negsuc n) zero h j = absurd (h .le)
-abs-of-range (negsuc n) (suc k) h j = omega (arith, leb→le n k (h .le))
-
 -- ---- the same as records, whose numbers are found
 
 pub w-add : {x y : ℤ} {h k : ℕ} → Within x h → Within y k → Within (x +ℤ y) (h + k)
@@ -117,22 +110,3 @@ w-fits′ {x} p l = fits64 x (omega (arith, p .within))
 -- what is read back from the bits of a number that is within a bound: `w-read p tt`
 pub w-read : {x : ℤ} {k : ℕ} → Within x k → T (ltb k (2 ^ 63)) → toZ w64 (ofZ w64 x) ≡ x
 w-read p t = toZ-ofZ (w-fits p t)
-
--- the distance of two naturals
-gap : (a b : ℕ) → pos a -ℤ pos b ≡ (a + 0) ⊖ (0 + b)
-gap a b = ap₂ _-ℤ_ (pos-⊖ a) (pos-⊖ b) ∙ both
-  where
-    both : a ⊖ 0 -ℤ b ⊖ 0 ≡ (a + 0) ⊖ (0 + b)
-    both = simp ⊖-laws
-
-pub apart : (a b k : ℕ) → a ≤ b + k → b ≤ a + k → natAbs (pos a -ℤ pos b) ≤ k
-apart a b k h j = subst (λ (z : ℤ). natAbs z ≤ k) (sym (gap a b)) (abs-⊖ (a + 0) (0 + b) k (omega arith) (omega arith))
-
--- a difference's size and value
-pub abs-is : (a b : ℕ) → natAbs (a ⊖ b) ≡ (a - b) + (b - a)
-unfolding _⊖_
-abs-is a b = sub-ind a b (λ z. natAbs z ≡ (a - b) + (b - a)) (λ l. omega arith) (λ l. omega arith)
-
-pub ⊖-pos : (a b n : ℕ) → a ⊖ b ≡ pos n → a ≡ n + b
-unfolding _⊖_
-⊖-pos a b n = sub-ind a b (λ z. z ≡ pos n → a ≡ n + b) (λ l e. absurd (pos-ne-negsuc n (b - suc a) (sym e))) (λ l e. omega (arith, ap natAbs e))

@@ -2,3 +2,4 @@ pub mod Number
 pub mod Sum
 pub mod Table
 pub mod Refusal
+pub mod Twos

@@ -31,6 +31,13 @@ pub fn with_sign(neg: bool, n: u64) -> i64
     if neg { -(n as i64) } else { n as i64 }
 }
 
+// A byte, wide. Its bound is said here once, so that no reader of a byte has to.
+pub fn wide(x: u8) -> u64
+    ensures { λ r. ⌜ (r ≡ x) × (r < 256) ⌝ }
+{
+    x as u64
+}
+
 // Whether a number is low to high.
 pub fn is_between(x: i64, low: i64, high: i64) -> bool
     ensures { λ r. ⌜ r ≡ between low high x ⌝ }

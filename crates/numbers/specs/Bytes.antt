@@ -1,0 +1,40 @@
+-- A list of numbers in bytes (document 01, "The exercise file"): "A list crosses as eight bytes a number, two's complement, lowest byte first".
+-- Assumes nothing.
+use mathlib.Core.List.{List, [], _∷_, _++_}
+use Prim.Native.Nat.{ℕ, zero, suc, _+_, _*_, _/_, _%_}
+use lib.IntN.{ℤ}
+use lib.ListN.{length, take, drop}
+use Rattle.ints.specs.Table.{tab}
+use Rattle.ints.specs.Twos.{twos, bitsOf}
+
+-- the number of bytes, lowest first
+unfoldable pub lowestFirst : List ℕ → ℕ
+lowestFirst [] = 0
+lowestFirst (b ∷ bs) = b + 256 * lowestFirst bs
+
+-- the `count` lowest bytes of a number, lowest first
+unfoldable pub bytesOf : ℕ → ℕ → List ℕ
+bytesOf zero u = []
+bytesOf (suc count) u = u % 256 ∷ bytesOf count (u / 256)
+
+-- eight bytes as a number, and a number as eight bytes
+abbrev pub number : List ℕ → ℤ
+number bytes = twos 64 (lowestFirst bytes)
+
+abbrev pub eight : ℤ → List ℕ
+eight z = bytesOf 8 (bitsOf 64 z)
+
+-- the number at i, and the bytes with z in its place
+abbrev pub numberAt : List ℕ → ℕ → ℤ
+numberAt s i = number (take 8 (drop (8 * i) s))
+
+abbrev pub withNumber : List ℕ → ℕ → ℤ → List ℕ
+withNumber s i z = take (8 * i) s ++ (eight z ++ drop (8 * i + 8) s)
+
+-- the list that bytes stand for, and the bytes of a list
+abbrev pub numbers : List ℕ → List ℤ
+numbers s = tab (numberAt s) (length s / 8)
+
+unfoldable pub encoded : List ℤ → List ℕ
+encoded [] = []
+encoded (z ∷ zs) = eight z ++ encoded zs

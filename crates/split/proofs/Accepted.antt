@@ -1,0 +1,77 @@
+-- What the order of refusals tells of a split that it accepts. Assumes nothing.
+use mathlib.Core.Path.{_≡_, refl, sym, ap, ap₂, _∙_}
+use mathlib.Core.Logic.{_⊎_, inl, inr, ⊎-elim}
+use mathlib.Core.Bool.{Bool, true, false, _||_}
+use mathlib.Core.List.{List}
+use Prim.Native.Nat.{ℕ, _≤_, _<_}
+use native.Mathlib.Decide.{decLt}
+use native.Mathlib.Omega.{arith}
+use lib.Dec.{ltb, leb, eqb}
+use lib.IntN.{ℤ, pos, negℤ, natAbs}
+use lib.ListN.{length, List·getD-eq-default}
+use borrow.Author.Tests.{lt-ltb, le-ltb, eq-eqb, ne-eqb, ltb-true, leb-true, eqb-true}
+use Rattle.ints.specs.Number.{between}
+use Rattle.ints.specs.Refusal.{unless}
+use Rattle.ints.specs.Table.{_at_, all}
+use Rattle.ints.proofs.Bools.{or-true, or-right}
+use Rattle.ints.proofs.Refusals.{passed}
+use Rattle.ints.proofs.Tables.{all-at}
+use Rattle.ints.proofs.Tests.{between-size, between-natural}
+use Rattle.split.specs.Split.{share, total, refusal}
+use Rattle.split.specs.Given.{Shares}
+
+-- the order from the ranges on, and from the total on
+abbrev pub fromTotal : ℤ → List ℤ → ℕ
+fromTotal amount shares = unless (ltb 0 (total shares) || eqb (natAbs amount) 0) 7 0
+
+abbrev pub fromRanges : ℤ → List ℤ → ℕ
+fromRanges amount shares =
+    unless (between (negℤ (pos 1000000000)) (pos 1000000000) amount) 2
+    (unless (all (between (pos 0) (pos 4000000000)) shares) 2
+    (fromTotal amount shares))
+
+-- the list is in range at each place, and past its end, where 0 stands
+pub shares-of : (shares : List ℤ) → length shares ≤ 64 → all (between (pos 0) (pos 4000000000)) shares ≡ true → Shares shares
+shares-of shares few e = record { few = few; most = λ i. here i (decLt i (length shares)) .1; natural = λ i. here i (decLt i (length shares)) .0 }
+  where
+    here : (i : ℕ) → Dec (i < length shares) → (shares at i ≡ pos (share shares i)) × (share shares i ≤ 4000000000)
+    here i (yes l) = between-natural (shares at i) 4000000000 (all-at (between (pos 0) (pos 4000000000)) (pos 0) shares e i l)
+    here i (no l) =
+        let none : shares at i ≡ pos 0 = List·getD-eq-default shares (pos 0) (omega arith) in
+        (none ∙ ap (λ (z : ℤ). pos (natAbs z)) (sym none), omega (arith, ap natAbs none))
+
+pub record Accepted (amount : ℤ) (shares : List ℤ) (n : ℕ) : Type 0 where
+  pub any : 1 ≤ length shares
+  pub same : n ≡ length shares
+  pub size : natAbs amount ≤ 1000000000
+  pub tested : Shares shares
+  pub some : (0 < total shares) ⊎ (natAbs amount ≡ 0)
+
+pub accepted : (amount : ℤ) (shares : List ℤ) (n : ℕ) → refusal amount shares n ≡ 0 → Accepted amount shares n
+unfolding refusal
+accepted amount shares n e =
+    let p1 = passed (leb 1 (length shares)) 0 _ e in
+    let p2 = passed (leb (length shares) 64) 0 _ (p1 .1) in
+    let p3 = passed (eqb n (length shares)) 0 _ (p2 .1) in
+    let p4 = passed (between (negℤ (pos 1000000000)) (pos 1000000000) amount) 1 _ (p3 .1) in
+    let p5 = passed (all (between (pos 0) (pos 4000000000)) shares) 1 _ (p4 .1) in
+    let p6 = passed (ltb 0 (total shares) || eqb (natAbs amount) 0) 6 0 (p5 .1) in
+    record {
+      any = leb-true 1 (length shares) (p1 .0);
+      same = eqb-true n (length shares) (p3 .0);
+      size = between-size amount 1000000000 (p4 .0);
+      tested = shares-of shares (leb-true (length shares) 64 (p2 .0)) (p5 .0);
+      some = ⊎-elim (λ t. inl (ltb-true 0 (total shares) t)) (λ t. inr (eqb-true (natAbs amount) 0 t)) (or-true (ltb 0 (total shares)) (eqb (natAbs amount) 0) (p6 .0));
+    }
+
+-- ---- the last line of the order
+
+module _ (amount : ℤ) (shares : List ℤ) where
+  pub without-amount : natAbs amount ≡ 0 → fromTotal amount shares ≡ 0
+  without-amount e = ap (λ (b : Bool). unless b 7 0) (or-right (ltb 0 (total shares)) (eqb (natAbs amount) 0) (eq-eqb (natAbs amount) 0 e))
+
+  pub with-total : 0 < total shares → fromTotal amount shares ≡ 0
+  with-total h = ap (λ (b : Bool). unless (b || eqb (natAbs amount) 0) 7 0) (lt-ltb 0 (total shares) h)
+
+  pub without-total : total shares ≡ 0 → (natAbs amount ≡ 0 → ⊥) → fromTotal amount shares ≡ 7
+  without-total e ne = ap₂ (λ (a b : Bool). unless (a || b) 7 0) (le-ltb 0 (total shares) (omega arith)) (ne-eqb (natAbs amount) 0 ne)

@@ -1,0 +1,58 @@
+-- `split::clear` meets its contract. Assumes nothing.
+use Rattle.ints.proofs.Tables.{tab-none, tab-store, tab-done}
+use Rattle.ints.specs.Table.{tab}
+use lib.ListN.{length, take, length-set}
+use lib.IntN.{pos}
+use native.Mathlib.Omega.{arith}
+use Prim.Native.Nat.{ℕ, _-_, _≤_}
+use mathlib.Core.Path.{_≡_, refl, ap, _∙_}
+use borrow.Author.Needs.{needs}
+use Rattle.split.proofs.clear.Statement.{statement}
+use Rattle.split.proofs.clear.Tie as tie
+
+abbrev Inv-loop : tie.InvT-loop
+Inv-loop parts₀ i₀ parts i = (i ≤ length parts₀) × (length parts ≡ length parts₀) × (take i parts ≡ tab (λ (k : ℕ). pos 0) i)
+
+abbrev μ-loop : tie.MeasureT-loop
+μ-loop parts₀ i₀ parts i = length parts₀ - i
+
+loop-holds : tie.Need-loop-holds Inv-loop μ-loop
+loop-holds c = (search needs, search needs, tab-none (λ k. pos 0))
+
+mul-parts : tie.Need-mul-parts Inv-loop μ-loop
+mul-parts c = search needs
+
+slice-set-of-parts : tie.Need-slice-set-of-parts Inv-loop μ-loop
+slice-set-of-parts c = search needs
+
+add-i : tie.Need-add-i Inv-loop μ-loop
+add-i c = search needs
+
+loop-less : tie.Need-loop-less Inv-loop μ-loop
+loop-less c = search needs
+
+loop-again : tie.Need-loop-again Inv-loop μ-loop
+loop-again c = let l = c .before in
+    (search needs, simp length-set (l .loop .inv .1), tab-store (λ k. pos 0) (l .loop .parts) (l .loop .i) (pos 0) (search needs) refl (l .loop .inv .2))
+
+same-length : tie.Need-same-length Inv-loop μ-loop
+same-length c = search needs
+
+returns : tie.Need-returns Inv-loop μ-loop
+returns c = let l = c .before in
+    tab-done (λ k. pos 0) (l .loop .parts) (l .loop .i) (omega arith) (l .loop .inv .2) ∙ ap (tab (λ k. pos 0)) (l .loop .inv .1)
+
+pub clear-spec : {M : Type 1} → statement M
+clear-spec =
+    tie.close
+    (tie.spec
+    Inv-loop
+    μ-loop
+    loop-holds
+    mul-parts
+    slice-set-of-parts
+    add-i
+    loop-less
+    loop-again
+    same-length
+    returns)
