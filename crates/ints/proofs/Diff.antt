@@ -133,10 +133,10 @@ ind3 P g x y z = ind2 (λ x y. P x y z) (λ a b c d. ind1 (λ z. P (a ⊖ b) (c 
 -- ---- the ring laws that `lib.IntN` lacks
 
 pub *ℤ-assoc : (x y z : ℤ) → (x *ℤ y) *ℤ z ≡ x *ℤ (y *ℤ z)
-*ℤ-assoc = ind3 (λ x y z. (x *ℤ y) *ℤ z ≡ x *ℤ (y *ℤ z)) (λ a b c d e f. simp ⊖-laws (⊖-eq _ _ _ _ (omega arith)))
+*ℤ-assoc = ind3 _ (λ a b c d e f. simp ⊖-laws (⊖-eq _ _ _ _ (omega arith)))
 
 pub *ℤ-distl : (x y z : ℤ) → x *ℤ (y +ℤ z) ≡ x *ℤ y +ℤ x *ℤ z
-*ℤ-distl = ind3 (λ x y z. x *ℤ (y +ℤ z) ≡ x *ℤ y +ℤ x *ℤ z) (λ a b c d e f. simp ⊖-laws (⊖-eq _ _ _ _ (omega arith)))
+*ℤ-distl = ind3 _ (λ a b c d e f. simp ⊖-laws (⊖-eq _ _ _ _ (omega arith)))
 
 -- a number as a difference: `simp (pos-⊖, negsuc-⊖, ⊖-laws)` brings a term of ℤ to one difference
 pub pos-⊖ : (n : ℕ) → pos n ≡ n ⊖ 0
@@ -148,7 +148,7 @@ unfolding _⊖_
 negsuc-⊖ n = sym (sub-is-neg 0 (suc n) n (omega arith))
 
 pub *ℤ-distr : (x y z : ℤ) → (x +ℤ y) *ℤ z ≡ x *ℤ z +ℤ y *ℤ z
-*ℤ-distr = ind3 (λ x y z. (x +ℤ y) *ℤ z ≡ x *ℤ z +ℤ y *ℤ z) (λ a b c d e f. simp ⊖-laws (⊖-eq _ _ _ _ (omega arith)))
+*ℤ-distr = ind3 _ (λ a b c d e f. simp ⊖-laws (⊖-eq _ _ _ _ (omega arith)))
 
 pub *ℤ-negl : (x y : ℤ) → negℤ x *ℤ y ≡ negℤ (x *ℤ y)
-*ℤ-negl = ind2 (λ x y. negℤ x *ℤ y ≡ negℤ (x *ℤ y)) (λ a b c d. simp ⊖-laws (⊖-eq _ _ _ _ (omega arith)))
+*ℤ-negl = ind2 _ (λ a b c d. simp ⊖-laws (⊖-eq _ _ _ _ (omega arith)))

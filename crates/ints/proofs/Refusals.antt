@@ -1,5 +1,5 @@
 -- An order of refusals, line by line, and the lent list. Assumes nothing.
-use mathlib.Core.Path.{_≡_, refl, sym, ap}
+use mathlib.Core.Path.{_≡_, refl, sym, ap, _∙_}
 use mathlib.Core.Bool.{Bool, true, false}
 use mathlib.Core.List.{List}
 use Prim.Native.Nat.{ℕ, suc}
@@ -15,9 +15,21 @@ passed false k later e = absurd (some e)
     some : suc k ≡ 0 → ⊥
     some e = omega arith
 
-module _ {A : Type 0} (answer : ℕ) (result before : List A) where
-  pub lent-result : answer ≡ 0 → result ≡ lent answer result before
-  lent-result e = sym (ap (λ (b : Bool). pick b result before) (eq-eqb answer 0 e))
+-- a lent list after an accepted call
+pub lent-result : {A : Type 0} (answer : ℕ) (result before : List A) → answer ≡ 0 → lent answer result before ≡ result
+lent-result answer result before e = ap (λ (b : Bool). pick b result before) (eq-eqb answer 0 e)
 
-  pub lent-before : (answer ≡ 0 → ⊥) → before ≡ lent answer result before
-  lent-before ne = sym (ap (λ (b : Bool). pick b result before) (ne-eqb answer 0 ne))
+-- ---- the answer r of a call, with what a lent list holds after it
+
+module _ {A : Type 0} (answer : ℕ) (result before : List A) where
+  pub kept : (r : ℕ) → (r ≡ 0 → ⊥) → r ≡ answer → (r ≡ answer) × (before ≡ lent answer result before)
+  kept r some e = (e, sym (ap (λ (b : Bool). pick b result before) (ne-eqb answer 0 (λ z. some (e ∙ z)))))
+
+  pub refused : (k : ℕ) → suc k ≡ answer → (suc k ≡ answer) × (before ≡ lent answer result before)
+  refused k e = kept (suc k) some e
+    where
+      some : suc k ≡ 0 → ⊥
+      some e = omega arith
+
+  pub done : (after : List A) → 0 ≡ answer → after ≡ result → (0 ≡ answer) × (after ≡ lent answer result before)
+  done after e f = (e, f ∙ sym (lent-result answer result before (sym e)))

@@ -23,6 +23,10 @@ pub ⊖-abs : (a b k : ℕ) → natAbs (a ⊖ b) ≤ k → (a ≤ b + k) × (b �
 unfolding _⊖_
 ⊖-abs a b k = sub-ind a b (λ z. natAbs z ≤ k → (a ≤ b + k) × (b ≤ a + k)) (λ l h. omega arith) (λ l h. omega arith)
 
+pub abs-is : (a b : ℕ) → natAbs (a ⊖ b) ≡ (a - b) + (b - a)
+unfolding _⊖_
+abs-is a b = sub-ind a b (λ z. natAbs z ≡ (a - b) + (b - a)) (λ l. omega arith) (λ l. omega arith)
+
 pub le-⊖ : (a b c d : ℕ) → a + d ≤ c + b → a ⊖ b ≤ℤ c ⊖ d
 unfolding _⊖_
 le-⊖ a b c d h =

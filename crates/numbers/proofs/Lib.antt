@@ -1,3 +1,4 @@
 pub mod Sign
 pub mod Words
 pub mod Laws
+pub mod Unique

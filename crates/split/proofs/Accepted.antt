@@ -9,7 +9,7 @@ use native.Mathlib.Omega.{arith}
 use lib.Dec.{ltb, leb, eqb}
 use lib.IntN.{ℤ, pos, negℤ, natAbs}
 use lib.ListN.{length, List·getD-eq-default}
-use borrow.Author.Tests.{lt-ltb, le-ltb, eq-eqb, ne-eqb, ltb-true, leb-true, eqb-true}
+use borrow.Author.Tests.{le-leb, lt-leb, lt-ltb, le-ltb, eq-eqb, ne-eqb, ltb-true, leb-true, eqb-true}
 use Rattle.ints.specs.Number.{between}
 use Rattle.ints.specs.Refusal.{unless}
 use Rattle.ints.specs.Table.{_at_, all}
@@ -63,6 +63,22 @@ accepted amount shares n e =
       tested = shares-of shares (leb-true (length shares) 64 (p2 .0)) (p5 .0);
       some = ⊎-elim (λ t. inl (ltb-true 0 (total shares) t)) (λ t. inr (eqb-true (natAbs amount) 0 t)) (or-true (ltb 0 (total shares)) (eqb (natAbs amount) 0) (p6 .0));
     }
+
+-- ---- lists of the wrong length
+
+module _ (amount : ℤ) (shares : List ℤ) (n : ℕ) where
+  pub too-many : 64 < length shares → refusal amount shares n ≡ 1
+  unfolding refusal
+  too-many h = simp (le-leb 1 (length shares) (omega arith), lt-leb (length shares) 64 h)
+
+  pub unequal : (n ≡ length shares → ⊥) → refusal amount shares n ≡ 1
+  unfolding refusal
+  unequal ne = ap (λ (b : Bool). unless (leb 1 (length shares)) 1 (unless (leb (length shares) 64) 1 (unless b 1 (fromRanges amount shares)))) (ne-eqb n (length shares) ne) ∙ either-way (leb 1 (length shares)) (leb (length shares) 64)
+    where
+      either-way : (a b : Bool) → unless a 1 (unless b 1 1) ≡ 1
+      either-way true true = refl
+      either-way true false = refl
+      either-way false b = refl
 
 -- ---- the last line of the order
 

@@ -15,12 +15,12 @@ use Rattle.ints.proofs.Bools.{either}
 use Rattle.ints.proofs.Counts.{sumN-most}
 use Rattle.ints.proofs.Signs.{signed-is, size-signed, signed-zero, signed-add, signed-sum, signed-quotient}
 use Rattle.ints.proofs.Sums.{sumTo-ext}
-use Rattle.ints.proofs.Tables.{length-tab, getD-tab}
+use Rattle.ints.proofs.Tables.{getD-tab}
 use Rattle.split.specs.Split.{share, total, cutDown, remainder, before, hasUnit, part, parts, refusal}
 use Rattle.split.specs.Fair.{Fair, proportion, further}
 use Rattle.split.proofs.Accepted.{Accepted, accepted}
 use Rattle.split.proofs.Order.{says-before}
-use Rattle.split.proofs.Laws.{part-is, part-sum, zero-part, larger-part, unit-before, no-size}
+use Rattle.split.proofs.Laws.{length-parts, part-is, part-sum, zero-part, larger-part, unit-before, no-size}
 
 module _ (amount : ℤ) (shares : List ℤ) (n : ℕ) (accepts : refusal amount shares n ≡ 0) where
   abbrev b : Bool
@@ -31,10 +31,6 @@ module _ (amount : ℤ) (shares : List ℤ) (n : ℕ) (accepts : refusal amount 
 
   a : Accepted amount shares n
   a = accepted amount shares n accepts
-
-  length-parts : length (parts amount shares) ≡ length shares
-  unfolding parts
-  length-parts = length-tab (λ i. signed b (part size shares i)) (length shares)
 
   part-at : (i : ℕ) → i < length shares → parts amount shares at i ≡ signed b (part size shares i)
   unfolding parts
@@ -98,7 +94,7 @@ module _ (amount : ℤ) (shares : List ℤ) (n : ℕ) (accepts : refusal amount 
 
   pub fair : Fair amount shares (parts amount shares)
   fair = record {
-    one-each = length-parts;
+    one-each = length-parts amount shares;
     proportional = λ i l. ⊎-elim (λ t. inr (with-unit i l t)) (λ f. inl (without-unit i l f)) (either (hasUnit size shares i));
     adds-up = sum-is;
     zero-share = λ i l e. part-at i l ∙ ap (signed b) (⊎-elim (λ t. zero-part size shares t i e) (λ z. no-part z i) (a .some)) ∙ signed-zero b;

@@ -7,12 +7,14 @@ use Prim.Native.Nat.{ℕ, zero, suc, _+_, _*_, _-_, _/_, _%_, _≤_, _<_}
 use native.Mathlib.Nat.{div-add-mod, mod-lt, zero-div, zero-mod, mul-zero, zero-mul, le-of-mul-le-mul-left, mul-le-mul-left, mul-lt-mul-of-pos-left, eq-zero-or-pos, eq-or-lt-of-le, le-of-lt, le-div-iff-mul-le, div-mul-le-self}
 use native.Mathlib.Omega.{arith}
 use lib.Dec.{ltb}
-use lib.IntN.{ℤ}
+use lib.IntN.{ℤ, natAbs}
 use lib.ListN.{length}
 use borrow.Author.Tests.{lt-ltb, le-ltb, ltb-true}
+use Rattle.ints.specs.Number.{below0, signed}
 use Rattle.ints.specs.Sum.{sumN, one, count}
 use Rattle.ints.proofs.Counts.{sumN-ext, sumN-le, sumN-plus, sumN-scale, sumN-most, sumN-part, sumN-term, one-most, one-le}
-use Rattle.split.specs.Split.{share, total, cutDown, remainder, unitsLeft, before, place, hasUnit, part}
+use Rattle.ints.proofs.Tables.{length-tab}
+use Rattle.split.specs.Split.{share, total, cutDown, remainder, unitsLeft, before, place, hasUnit, part, parts}
 use Rattle.split.specs.Given.{Shares}
 use Rattle.split.proofs.Order.{ranks, says-before, place-lt}
 
@@ -165,6 +167,10 @@ module _ (size : ℕ) (shares : List ℤ) where
 pub total-most : (shares : List ℤ) → Shares shares → total shares ≤ 256000000000
 unfolding total
 total-most shares s = omega (arith, sumN-most (share shares) 4000000000 (length shares) (λ i _. s .most i), s .few)
+
+pub length-parts : (amount : ℤ) (shares : List ℤ) → length (parts amount shares) ≡ length shares
+unfolding parts
+length-parts amount shares = length-tab (λ i. signed (below0 amount) (part (natAbs amount) shares i)) (length shares)
 
 -- no size, no part, also where the shares total 0
 pub no-size : (shares : List ℤ) (i : ℕ) → part 0 shares i ≡ 0

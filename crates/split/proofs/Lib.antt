@@ -4,3 +4,4 @@ pub mod Floors
 pub mod Parts
 pub mod Accepted
 pub mod Demand3
+pub mod Unique

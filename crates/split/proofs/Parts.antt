@@ -2,7 +2,7 @@
 use mathlib.Core.Path.{_≡_, sym, ap, ap₂, _∙_}
 use mathlib.Core.Bool.{Bool}
 use mathlib.Core.List.{List}
-use Prim.Native.Nat.{ℕ, suc, _+_, _*_, _-_, _≤_, _<_}
+use Prim.Native.Nat.{ℕ, _+_, _*_, _-_, _≤_, _<_}
 use native.Mathlib.Omega.{arith}
 use lib.Dec.{ltb}
 use lib.IntN.{ℤ, pos, natAbs}
@@ -11,10 +11,9 @@ use Rattle.ints.specs.Number.{below0, signed}
 use Rattle.ints.specs.Sum.{one}
 use Rattle.ints.specs.Table.{tab}
 use Rattle.ints.proofs.Counts.{sumN-term}
-use Rattle.ints.proofs.Refusals.{lent-result, lent-before}
 use Rattle.ints.proofs.Signs.{signed-zero}
 use Rattle.ints.proofs.Tables.{tab-read, tab-ext}
-use Rattle.split.specs.Split.{total, cutDown, remainder, unitsLeft, place, part, parts, refusal, outcome}
+use Rattle.split.specs.Split.{total, cutDown, remainder, unitsLeft, place, part, parts}
 use Rattle.split.specs.Given.{Given, keyOf, above, Keys, Floor, Cuts}
 use Rattle.split.proofs.Floors.{above-place}
 use Rattle.split.proofs.Laws.{small, cut-sum, total-most, part-is, no-size}
@@ -64,17 +63,3 @@ zeros-made amount shares n z e =
 pub amount-made : (amount : ℤ) (shares : List ℤ) (neg : Bool) (size : ℕ) → neg ≡ below0 amount → size ≡ natAbs amount → tab (λ i. signed neg (part size shares i)) (length shares) ≡ parts amount shares
 unfolding parts
 amount-made amount shares neg size e f = ap₂ (λ (neg : Bool) (size : ℕ). tab (λ i. signed neg (part size shares i)) (length shares)) e f
-
--- ---- the answer and the lent list
-
-module _ (amount : ℤ) (shares old : List ℤ) where
-  pub refused : (k : ℕ) → suc k ≡ refusal amount shares (length old) → (suc k ≡ refusal amount shares (length old)) × (old ≡ outcome amount shares old)
-  unfolding outcome
-  refused k e = (e, lent-before (refusal amount shares (length old)) (parts amount shares) old (λ z. some (e ∙ z)))
-    where
-      some : suc k ≡ 0 → ⊥
-      some e = omega arith
-
-  pub done : (new : List ℤ) → 0 ≡ refusal amount shares (length old) → new ≡ parts amount shares → (0 ≡ refusal amount shares (length old)) × (new ≡ outcome amount shares old)
-  unfolding outcome
-  done new e f = (e, f ∙ lent-result (refusal amount shares (length old)) (parts amount shares) old (sym e))

@@ -61,5 +61,5 @@ refusal amount shares n =
     0)))))
 
 -- what the lent list then holds
-unfoldable pub outcome : ℤ → List ℤ → List ℤ → List ℤ
+abbrev pub outcome : ℤ → List ℤ → List ℤ → List ℤ
 outcome amount shares old = lent (refusal amount shares (length old)) (parts amount shares) old

@@ -1,0 +1,33 @@
+-- Each contract allows one result: two that it allows at the same arguments are equal. Assumes nothing.
+use mathlib.Core.Path.{_≡_, ap}
+use lib.IntN.{ℤ}
+use Rattle.ints.proofs.Unique.{unique}
+use Rattle.units.specs.declared.Kw.{Kw}
+use Rattle.units.specs.declared.Mills.{Mills}
+use Rattle.units.specs.declared.Twelfths.{Twelfths}
+use Rattle.units.specs.declared.Cents.{Cents}
+use Rattle.units.proofs.charge.Reads as charge
+use Rattle.units.proofs.whole_hour.Reads as whole-hour
+use Rattle.units.proofs.to_cents.Reads as to-cents
+
+-- ---- what each contract says of a result r. `F.Post` is the `ensures` of F, over lifetimes, arguments, result and arguments at exit
+
+abbrev Charge : Kw → Mills → Twelfths → Type 0
+Charge kw price r = charge.Post tt (kw, (price, tt)) r (kw, (price, tt))
+
+abbrev WholeHour : Mills → Mills → Type 0
+WholeHour price r = whole-hour.Post tt (price, tt) r (price, tt)
+
+abbrev ToCents : Twelfths → Cents → Type 0
+ToCents amount r = to-cents.Post tt (amount, tt) r (amount, tt)
+
+-- ---- two results
+
+pub charge-unique : (kw : Kw) (price : Mills) (r s : Twelfths) → Charge kw price r → Charge kw price s → r ≡ s
+charge-unique kw price r s p q = ap (λ (n : ℤ). record { 0 = n }) (unique p q)
+
+pub whole-hour-unique : (price r s : Mills) → WholeHour price r → WholeHour price s → r ≡ s
+whole-hour-unique price r s p q = ap (λ (n : ℤ). record { 0 = n }) (unique p q)
+
+pub to-cents-unique : (amount : Twelfths) (r s : Cents) → ToCents amount r → ToCents amount s → r ≡ s
+to-cents-unique amount r s p q = ap (λ (n : ℤ). record { 0 = n }) (unique p q)

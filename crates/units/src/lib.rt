@@ -1,0 +1,44 @@
+// Document 01: "Kilowatts, mills and cents are never added to one another". A struct for each unit, and the only
+// functions in which one becomes another.
+ghost use mathlib.Core.Path.{_≡_};
+ghost use Prim.Native.Nat.{_≤_};
+ghost use lib.IntN.{pos};
+ghost use Rattle.ints.specs.Number.{Within};
+ghost use Rattle.units.specs.Units.{chargeOf, wholeHour, centsOf};
+
+// Kilowatts, 0 to 20,000,000.
+pub struct Kw(pub u32);
+
+// Mills (0.001 dollar) per MWh: a price, or a weight made of prices.
+pub struct Mills(pub i64);
+
+// Twelfths of a millionth of a dollar: a charge, exactly.
+pub struct Twelfths(pub i64);
+
+// Cents: a charge as it is billed.
+pub struct Cents(pub i64);
+
+// The charge of kW at a price, for one interval. A weight is at most that of a path: 24 prices at each of its two ends.
+pub fn charge(kw: Kw, price: Mills) -> Twelfths
+    requires { ⌜ (kw .0 ≤ 20000000) × Within (price .0) 240000000 ⌝ }
+    ensures { λ r. ⌜ r .0 ≡ chargeOf (pos (kw .0)) (price .0) ⌝ }
+{
+    Twelfths(kw.0 as i64 * price.0)
+}
+
+// The weight of a price that holds for the whole hour.
+pub fn whole_hour(price: Mills) -> Mills
+    requires { ⌜ Within (price .0) 5000000 ⌝ }
+    ensures { λ r. ⌜ r .0 ≡ wholeHour (price .0) ⌝ }
+{
+    Mills(12 * price.0)
+}
+
+// The nearest cent, halves away from zero.
+pub fn to_cents(amount: Twelfths) -> Cents
+    ensures { λ r. ⌜ r .0 ≡ centsOf (amount .0) ⌝ }
+{
+    let x = amount.0;
+    let cents = (ints::size(x) + 60_000) / 120_000;
+    Cents(ints::with_sign(ints::negative(x), cents))
+}

@@ -1,0 +1,10 @@
+-- The contract of each call allows one answer and one content of each lent slice. Assumes nothing.
+-- `F.Post` is the `ensures` of F, over lifetimes, arguments, answer and what the lent slices hold at exit.
+use mathlib.Core.Path.{_≡_}
+use Prim.Native.Nat.{ℕ}
+use contract.Lifetimes.{Lfts}
+use Rattle.ints.proofs.Unique.{unique}
+use Rattle.wunzelihle.proofs.wz_split.Reads as wz-split
+
+pub wz-split-unique : (κs : Lfts 2) (a : _) (r s : ℕ) (e f : _) → wz-split.Post κs a r e → wz-split.Post κs a s f → (r ≡ s) × (e .1 .1 .0 .now ≡ f .1 .1 .0 .now)
+wz-split-unique κs a r s e f p q = (unique (p .0) (q .0), unique (p .1) (q .1))
