@@ -12,9 +12,9 @@
  * length is in bytes: 3 numbers are 24 bytes. The bytes need no alignment.
  *
  * A list of length 0 may have any pointer, NULL included; otherwise the
- * pointer is to at least so many bytes. Lists of one call must not overlap
- * where one of them is written to. The engine reads lists that are const and
- * writes to the others, and touches nothing outside the lengths given.
+ * pointer is to at least so many bytes. The lists of one call must not
+ * overlap. Lists that are const are only read, and nothing outside the lengths
+ * given is touched.
  *
  * ANSWERS
  *
@@ -26,9 +26,8 @@
  *
  * STATE AND THREADS
  *
- * Calls keep no state, allocate nothing and leave errno alone. They may run on
- * any thread, and at the same time on several, as long as no list written to
- * by one is in use by another.
+ * Calls keep no state. They may run on any thread, and at the same time on
+ * several, as long as no list written to by one is in use by another.
  */
 #ifndef WUNZELIHLE_H
 #define WUNZELIHLE_H
