@@ -7,7 +7,6 @@
 #include <string.h>
 
 #define GUARD 64
-#define MOST_FIELDS 32
 #define MOST_PRINTED 10
 
 static size_t line_number, cases, wrong;
@@ -172,10 +171,10 @@ static void part(char *line, char **field, size_t fields)
 
 int run_cases(size_t fields, int (*check)(char **field))
 {
+    char **field = space(NULL, fields * sizeof *field);
     char *line;
 
     while ((line = next_line())) {
-        char *field[MOST_FIELDS];
         char *text;
 
         if (*line == '#')
@@ -188,6 +187,7 @@ int run_cases(size_t fields, int (*check)(char **field))
             wrong++;
         free(text);
     }
+    free(field);
     printf("%zu cases, %zu wrong\n", cases, wrong);
     return cases == 0 || wrong > 0;
 }

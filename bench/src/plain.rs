@@ -16,14 +16,13 @@ pub fn split(amount: i64, shares: &[u8], parts: &mut [u8]) -> u32 {
     if size > 1_000_000_000 {
         return 2;
     }
-    let mut part = [0; PARTIES];
     let mut total = 0;
-    for (share, eight) in part.iter_mut().zip(eights) {
-        *share = u64::from_le_bytes(eight.try_into().unwrap());
-        if *share > 4_000_000_000 {
+    for eight in eights.clone() {
+        let share = number(eight);
+        if share > 4_000_000_000 {
             return 2;
         }
-        total += *share;
+        total += share;
     }
     if total == 0 {
         if amount != 0 {
@@ -35,26 +34,30 @@ pub fn split(amount: i64, shares: &[u8], parts: &mut [u8]) -> u32 {
 
     // A remainder (below 2^38) above its party counted from the end, so that
     // of equal remainders the earlier is the larger.
+    let sign = if amount < 0 { -1 } else { 1 };
     let mut keys = [0; PARTIES];
     let mut left = size;
-    for (i, part) in part[..count].iter_mut().enumerate() {
-        let product = size * *part;
-        *part = product / total;
+    for (i, (eight, part)) in eights.zip(parts.chunks_exact_mut(8)).enumerate() {
+        let product = size * number(eight);
+        let cut = product / total;
         keys[i] = (product % total) << 6 | (PARTIES - 1 - i) as u64;
-        left -= *part;
+        left -= cut;
+        part.copy_from_slice(&(sign * cut as i64).to_le_bytes());
     }
     if left > 0 {
         let left = left as usize;
         let keys = &mut keys[..count];
         keys.select_nth_unstable_by(left - 1, |a, b| b.cmp(a));
         for key in &keys[..left] {
-            part[PARTIES - 1 - (key & 63) as usize] += 1;
+            let party = PARTIES - 1 - (key & 63) as usize;
+            let part = &mut parts[8 * party..8 * party + 8];
+            let one_more = number(part) as i64 + sign;
+            part.copy_from_slice(&one_more.to_le_bytes());
         }
     }
-    for (eight, part) in parts.chunks_exact_mut(8).zip(part) {
-        let part = part as i64;
-        let signed = if amount < 0 { -part } else { part };
-        eight.copy_from_slice(&signed.to_le_bytes());
-    }
     0
+}
+
+fn number(eight: &[u8]) -> u64 {
+    u64::from_le_bytes(eight.try_into().unwrap())
 }

@@ -7,16 +7,16 @@
 static inline int64_t number_at(const uint8_t *list, size_t i)
 {
     uint64_t number = 0;
-    int k;
+    size_t k;
 
-    for (k = 7; k >= 0; k--)
+    for (k = 8; k-- > 0;)
         number = number << 8 | list[8 * i + k];
     return (int64_t)number;
 }
 
 static inline void put_at(uint8_t *list, size_t i, int64_t number)
 {
-    int k;
+    size_t k;
 
     for (k = 0; k < 8; k++)
         list[8 * i + k] = (uint8_t)((uint64_t)number >> 8 * k);
