@@ -174,6 +174,8 @@ int run_cases(size_t fields, int (*check)(char **field))
     char **field = space(NULL, fields * sizeof *field);
     char *line;
 
+    /* What was found is kept where a later call crashes. */
+    setvbuf(stdout, NULL, _IOLBF, 0);
     while ((line = next_line())) {
         char *text;
 
