@@ -8,11 +8,13 @@ use std::process::ExitCode;
 
 fn main() -> ExitCode {
     let words: Vec<String> = std::env::args().skip(1).collect();
-    let [call, count, seed] = words.as_slice() else {
-        return usage();
+    let (call, count, seed) = match words.as_slice() {
+        [call, count, seed] => (call, count.parse(), seed.parse()),
+        _ => return usage(),
     };
-    let (Ok(count), Ok(seed)) = (count.parse(), seed.parse()) else {
-        return usage();
+    let (count, seed) = match (count, seed) {
+        (Ok(count), Ok(seed)) => (count, seed),
+        _ => return usage(),
     };
     let mut random = Random::new(seed);
     let mut out = BufWriter::new(io::stdout().lock());

@@ -8,8 +8,9 @@ pub const MOST_SHARE: i64 = 4_000_000_000;
 
 /// What `wz_split` does and answers.
 pub fn split(amount: i64, shares: &[u8], parts: &mut [u8]) -> u32 {
-    let Some(list) = numbers::read(shares) else {
-        return 1;
+    let list = match numbers::read(shares) {
+        Some(list) => list,
+        None => return 1,
     };
     if list.is_empty() || list.len() > MOST_PARTIES {
         return 1;
