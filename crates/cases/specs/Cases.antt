@@ -6,8 +6,8 @@ use lib.IntN.{ℤ, pos, negℤ}
 use lib.ListN.{length}
 use Rattle.ints.specs.Sum.{sumN}
 use Rattle.ints.specs.Table.{tab, all}
-use Rattle.split.specs.Split.{total, cutDown, remainder, unitsLeft, before, place, part, parts, refusal}
 use Rattle.units.specs.Units.{centsOf}
+use Rattle.split.specs.Split.{total, cutDown, remainder, unitsLeft, before, place, part, parts, refusal}
 
 -- an amount over shares is accepted and has these parts
 abbrev Splits : ℤ → List ℤ → List ℤ → Type 0

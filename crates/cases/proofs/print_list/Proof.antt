@@ -1,11 +1,11 @@
-use borrow.Author.Needs.{needs}
 use Prim.Native.Nat.{_≤_, _-_}
 use lib.ListN.{length}
+use borrow.Author.Needs.{needs}
+use Rattle.cases.proofs.print_item.Reads as print-item-reads
+use Rattle.cases.proofs.print_list.Lts as lts
+use Rattle.cases.proofs.print_list.Reads as reads
 use Rattle.cases.proofs.print_list.Statement.{statement}
 use Rattle.cases.proofs.print_list.Tie as tie
-use Rattle.cases.proofs.print_list.Reads as reads
-use Rattle.cases.proofs.print_list.Lts as lts
-use Rattle.cases.proofs.print_item.Reads as print-item-reads
 
 abbrev Inv-loop : tie.InvT-loop
 Inv-loop list i₀ i = i ≤ length list
