@@ -8,3 +8,4 @@ pub mod Counts
 pub mod Tables
 pub mod Refusals
 pub mod Unique
+pub mod Turns

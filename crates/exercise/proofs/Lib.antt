@@ -1,0 +1,5 @@
+pub mod Packed
+pub mod Given
+pub mod Whole
+pub mod Prices
+pub mod Reader

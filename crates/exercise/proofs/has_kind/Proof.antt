@@ -1,0 +1,16 @@
+use borrow.Author.Tests.{eq-eqb, ne-eqb}
+use Rattle.exercise.proofs.has_kind.Statement.{statement}
+use Rattle.exercise.proofs.has_kind.Tie as tie
+use Rattle.exercise.proofs.has_kind.Reads as reads
+use Rattle.exercise.proofs.has_kind.Lts as lts
+
+-- src/lib.rt:60:1
+returns : tie.Need-returns
+returns c = simp (eq-eqb _ _ (c .if1 .taken))
+
+-- src/lib.rt:60:1
+returns-2 : tie.Need-returns-2
+returns-2 c = simp (ne-eqb _ _ (c .if1 .left))
+
+pub has-kind-spec : {M : Type 1} → statement M
+has-kind-spec = tie.close (tie.spec returns returns-2)

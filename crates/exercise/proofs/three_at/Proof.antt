@@ -1,0 +1,82 @@
+use Rattle.exercise.proofs.Packed.{one-byte, grouped}
+use Prim.Native.Nat.{_+_}
+use native.Mathlib.Omega.{arith}
+use borrow.Author.Needs.{needs}
+use Rattle.exercise.proofs.three_at.Statement.{statement}
+use Rattle.exercise.proofs.three_at.Tie as tie
+use Rattle.exercise.proofs.three_at.Reads as reads
+use Rattle.exercise.proofs.three_at.Lts as lts
+use Rattle.ints.proofs.wide.Reads as wide-reads
+
+-- src/lib.rt:48:24
+shared-slice-read-wide : tie.Need-shared-slice-read-wide
+shared-slice-read-wide c = search needs
+
+-- src/lib.rt:48:13
+wide-requires : tie.Need-wide-requires
+wide-requires c κs = search needs
+
+-- src/lib.rt:48:5
+mul-result : tie.Need-mul-result
+mul-result c = search needs
+
+-- src/lib.rt:48:51
+add-wide : tie.Need-add-wide
+add-wide c = search needs
+
+-- src/lib.rt:48:49
+shared-slice-read-wide-2 : tie.Need-shared-slice-read-wide-2
+shared-slice-read-wide-2 c = search needs
+
+-- src/lib.rt:48:38
+wide-requires-2 : tie.Need-wide-requires-2
+wide-requires-2 c κs = search needs
+
+-- src/lib.rt:48:32
+mul-result-2 : tie.Need-mul-result-2
+mul-result-2 c = search needs
+
+-- src/lib.rt:48:5
+add-result : tie.Need-add-result
+add-result c = search needs
+
+-- src/lib.rt:48:74
+add-wide-2 : tie.Need-add-wide-2
+add-wide-2 c = search needs
+
+-- src/lib.rt:48:72
+shared-slice-read-wide-3 : tie.Need-shared-slice-read-wide-3
+shared-slice-read-wide-3 c = search needs
+
+-- src/lib.rt:48:61
+wide-requires-3 : tie.Need-wide-requires-3
+wide-requires-3 c κs = search needs
+
+-- src/lib.rt:48:5
+add-result-2 : tie.Need-add-result-2
+add-result-2 c = search needs
+
+-- src/lib.rt:44:1
+returns : tie.Need-returns
+returns c = let a = c .before .before .before .before .before .before .before .args in
+    let s = a .s .now in
+    let k = a .k in
+    (omega (arith, grouped s k 2 1, grouped s k 1 1, one-byte s k, one-byte s (k + 1), one-byte s (k + 2)), omega arith)
+
+pub three-at-spec : {M : Type 1} → statement M
+three-at-spec =
+    tie.close
+    (tie.spec
+    shared-slice-read-wide
+    wide-requires
+    mul-result
+    add-wide
+    shared-slice-read-wide-2
+    wide-requires-2
+    mul-result-2
+    add-result
+    add-wide-2
+    shared-slice-read-wide-3
+    wide-requires-3
+    add-result-2
+    returns)
