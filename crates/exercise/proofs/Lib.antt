@@ -1,5 +1,5 @@
-pub mod Packed
-pub mod Given
-pub mod Whole
 pub mod Prices
+pub mod Whole
 pub mod Reader
+pub mod Accepted
+pub mod Unique

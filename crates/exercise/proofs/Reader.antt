@@ -1,16 +1,14 @@
 -- The stretch that the reader hands back: of an accepted file its rows, and of any other nothing. Assumes nothing.
-use mathlib.Core.Path.{_≡_, refl, sym, ap, _∙_}
+use mathlib.Core.Path.{_≡_, ap, _∙_}
 use mathlib.Core.Bool.{Bool}
 use mathlib.Core.List.{List, []}
-use Prim.Native.Nat.{ℕ, _+_, _*_, _/_, _≤_}
+use Prim.Native.Nat.{ℕ, _*_, _/_}
 use native.Mathlib.Omega.{arith}
 use lib.ListN.{length}
 use borrow.Author.Tests.{eq-eqb, ne-eqb}
 use Rattle.ints.specs.Refusal.{pick}
 use Rattle.ints.proofs.Turns.{then-none}
-use Rattle.exercise.specs.declared.Row.{Row}
-use Rattle.exercise.specs.declared.Places.{Places}
-use Rattle.exercise.specs.Row.{rowsIn, rowAt}
+use Rattle.rows.specs.Row.{rowsIn}
 use Rattle.exercise.specs.File.{header, places, rowPart, rows, fileRefusal, stretch, stretchStart}
 use Rattle.exercise.proofs.Whole.{laid, whole, part-length}
 

@@ -1,6 +1,3 @@
-pub mod Packed
-pub mod Row
-pub mod Transaction
-pub mod Alone
 pub mod Price
 pub mod File
+pub mod Cases

@@ -8,7 +8,7 @@ use Rattle.ints.specs.Refusal.{unless}
 use Rattle.ints.specs.Table.{tab}
 use Rattle.ints.specs.Turn.{inTurn}
 use Rattle.ints.specs.Twos.{twos}
-use Rattle.exercise.specs.Packed.{bytesAt}
+use Rattle.rows.specs.Packed.{bytesAt}
 
 -- "Prices, 24 bits each, two's complement"
 abbrev pub priceSize : ℕ

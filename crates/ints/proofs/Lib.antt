@@ -9,3 +9,4 @@ pub mod Tables
 pub mod Refusals
 pub mod Unique
 pub mod Turns
+pub mod Members

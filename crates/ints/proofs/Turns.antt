@@ -2,10 +2,9 @@
 use mathlib.Core.Path.{_≡_, refl, sym, ap, _∙_}
 use mathlib.Core.Logic.{⊎-elim}
 use mathlib.Core.Bool.{Bool, true, false}
-use Prim.Native.Nat.{ℕ, zero, suc, _+_, _≤_, _<_}
+use Prim.Native.Nat.{ℕ, zero, suc, _+_, _<_}
 use native.Mathlib.Nat.{eq-or-lt-of-le, le-of-suc-le-suc, not-suc-le-zero}
 use native.Mathlib.Numerals.{add-one}
-use native.Mathlib.Omega.{arith}
 use lib.Dec.{eqb}
 use borrow.Author.Tests.{eq-eqb, ne-eqb, eqb-true, eqb-false}
 use Rattle.ints.specs.Refusal.{pick}
@@ -94,3 +93,12 @@ module _ {X D : Type 0} (accepted : X → D) (refused : ℕ → D) (number : D �
         where
           some : f i ≡ 0 → ⊥
           some z = apart (things i) r (answer-accepted accepted refused (f i) (things i) (things i) z refl ∙ sym e ∙ q)
+
+-- what an answer is, where it is accepted: the thing, which has no refusal
+pub answer-taken : {X D : Type 0} (accepted : X → D) (refused : ℕ → D) → ((x y : X) → accepted x ≡ accepted y → x ≡ y) → ((x : X) (r : ℕ) → accepted x ≡ refused r → ⊥)
+    → (refusal : ℕ) (x y : X) → answer accepted refused refusal x ≡ accepted y → (refusal ≡ 0) × (x ≡ y)
+answer-taken {X} accepted refused inside apart refusal x y = by (eqb refusal 0) refl
+  where
+    by : (t : Bool) → eqb refusal 0 ≡ t → pick t (accepted x) (refused refusal) ≡ accepted y → (refusal ≡ 0) × (x ≡ y)
+    by true t e = (eqb-true refusal 0 t, inside x y e)
+    by false t e = absurd (apart y refusal (sym e))

@@ -1,6 +1,7 @@
+-- `exercise::from_bits` meets its contract. Assumes nothing.
 use native.Mathlib.Omega.{arith}
-use Prim.Native.Nat.{ℕ, suc, _-_, _^_, _<_}
-use mathlib.Core.Path.{_≡_, sym, ap, _∙_}
+use Prim.Native.Nat.{suc, _-_, _^_}
+use mathlib.Core.Path.{_≡_, ap, _∙_}
 use lib.IntN.{negsuc}
 use mir.Syntax.{w64}
 use mir.Val.{toZ}
@@ -9,26 +10,19 @@ use borrow.Author.Tests.{lt-ltb, le-ltb}
 use borrow.Author.Needs.{needs}
 use Rattle.exercise.proofs.from_bits.Statement.{statement}
 use Rattle.exercise.proofs.from_bits.Tie as tie
-use Rattle.exercise.proofs.from_bits.Reads as reads
-use Rattle.exercise.proofs.from_bits.Lts as lts
 
--- src/lib.rt:262:9
 cast-result : tie.Need-cast-result
 cast-result c = search needs
 
--- src/lib.rt:264:12
 sub-result : tie.Need-sub-result
 sub-result c = search needs
 
--- src/lib.rt:264:11
 cast-result-2 : tie.Need-cast-result-2
 cast-result-2 c = search needs
 
--- src/lib.rt:257:1
 returns : tie.Need-returns
 returns c = simp (toZ-pos w64 {n = c .before .args .u} (omega arith), lt-ltb _ _ (c .if1 .taken))
 
--- src/lib.rt:257:1
 returns-2 : tie.Need-returns-2
 returns-2 c = let u = c .before .args .u in
     let e : 18446744073709551615 - (16777215 - u) ≡ 2 ^ 64 - suc (16777215 - u) = omega arith in

@@ -1,39 +1,29 @@
+-- `exercise::header_refusal` meets its contract. Assumes nothing.
 use Rattle.exercise.specs.File.{headerRefusal}
-use Rattle.exercise.specs.declared.Places.{Places}
 use borrow.Author.Tests.{eq-eqb, ne-eqb, le-leb, lt-leb}
-use mathlib.Core.Path.{ap, _∙_}
 use borrow.Author.Needs.{needs}
 use Rattle.exercise.proofs.header_refusal.Statement.{statement}
 use Rattle.exercise.proofs.header_refusal.Tie as tie
-use Rattle.exercise.proofs.header_refusal.Reads as reads
-use Rattle.exercise.proofs.header_refusal.Lts as lts
-use Rattle.exercise.proofs.places_of.Reads as places-of-reads
 
--- src/lib.rt:417:9
 returns : tie.Need-returns
 unfolding headerRefusal
 returns c = simp (ne-eqb _ _ (c .if1 .taken))
 
--- src/lib.rt:420:9
 returns-2 : tie.Need-returns-2
 unfolding headerRefusal
 returns-2 c = simp (eq-eqb _ _ (c .before .before .if1 .left), lt-leb _ _ (c .if2 .taken))
 
--- src/lib.rt:423:9
 returns-3 : tie.Need-returns-3
 unfolding headerRefusal
 returns-3 c = let b = c .before .before in simp (eq-eqb _ _ (b .before .before .if1 .left), le-leb _ _ (b .if2 .left), lt-leb _ _ (c .if3 .taken))
 
--- src/lib.rt:425:17
 places-of-requires : tie.Need-places-of-requires
 places-of-requires c κs = search needs
 
--- src/lib.rt:426:9
 returns-4 : tie.Need-returns-4
 unfolding headerRefusal
 returns-4 c = let d = c .before .before .before in let b = d .before .before in simp (eq-eqb _ _ (b .before .before .if1 .left), le-leb _ _ (b .if2 .left), le-leb _ _ (d .if3 .left), simp (c .before .before .places-of .ensures) at (ne-eqb _ _ (c .if4 .taken)))
 
--- src/lib.rt:412:1
 returns-5 : tie.Need-returns-5
 unfolding headerRefusal
 returns-5 c = let d = c .before .before .before in let b = d .before .before in simp (eq-eqb _ _ (b .before .before .if1 .left), le-leb _ _ (b .if2 .left), le-leb _ _ (d .if3 .left), simp (c .before .before .places-of .ensures) at (eq-eqb _ _ (c .if4 .left)))

@@ -1,43 +1,34 @@
+-- `exercise::interval_prices` meets its contract. Assumes nothing.
 use Rattle.exercise.proofs.Prices.{room}
-use lib.ListN.{length, take, drop}
-use lib.IntN.{ℤ}
+use lib.ListN.{take, drop}
 use native.Mathlib.Omega.{arith}
 use Prim.Native.Nat.{ℕ, _+_, _*_, _-_, _≤_}
 use mathlib.Core.Path.{_≡_, refl, ap}
 use borrow.Author.Needs.{needs}
 use Rattle.exercise.proofs.interval_prices.Statement.{statement}
 use Rattle.exercise.proofs.interval_prices.Tie as tie
-use Rattle.exercise.proofs.interval_prices.Reads as reads
-use Rattle.exercise.proofs.interval_prices.Lts as lts
 
 inside : (c : tie.Start) → c .args .k * c .args .locations + c .args .locations ≤ 12 * c .args .locations
 inside c = room (c .args .k) 12 (c .args .locations) (c .pre .0)
 
--- src/lib.rt:312:16
 mul-from : tie.Need-mul-from
 mul-from c = omega (arith, inside c)
 
--- src/lib.rt:313:14
 add-to : tie.Need-add-to
 add-to c = omega (arith, inside c)
 
--- src/lib.rt:314:5
 mul-result : tie.Need-mul-result
 mul-result c = omega (arith, inside c)
 
--- src/lib.rt:314:5
 sub-result : tie.Need-sub-result
 sub-result c = search needs
 
--- src/lib.rt:314:5
 part-result-start : tie.Need-part-result-start
 part-result-start c = search needs
 
--- src/lib.rt:314:5
 part-result-end : tie.Need-part-result-end
 part-result-end c = omega (arith, inside c)
 
--- src/lib.rt:306:1
 returns : tie.Need-returns
 returns c = let a = c .before .args in
     let size : a .k * a .locations + a .locations - a .k * a .locations ≡ a .locations = omega arith in

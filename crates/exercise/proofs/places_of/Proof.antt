@@ -1,40 +1,31 @@
+-- `exercise::places_of` meets its contract. Assumes nothing.
 use Rattle.exercise.specs.File.{placesOf}
 use mathlib.Core.Path.{refl}
 use borrow.Author.Needs.{needs}
 use Rattle.exercise.proofs.places_of.Statement.{statement}
 use Rattle.exercise.proofs.places_of.Tie as tie
-use Rattle.exercise.proofs.places_of.Reads as reads
-use Rattle.exercise.proofs.places_of.Lts as lts
 
--- src/lib.rt:370:25
 mul-rows : tie.Need-mul-rows
 mul-rows c = search needs
 
--- src/lib.rt:370:20
 mul-rows-2 : tie.Need-mul-rows-2
 mul-rows-2 c = search needs
 
--- src/lib.rt:370:16
 add-rows : tie.Need-add-rows
 add-rows c = search needs
 
--- src/lib.rt:371:31
 mul-transactions : tie.Need-mul-transactions
 mul-transactions c = search needs
 
--- src/lib.rt:371:24
 add-transactions : tie.Need-add-transactions
 add-transactions c = search needs
 
--- src/lib.rt:376:29
 mul-t5 : tie.Need-mul-t5
 mul-t5 c = search needs
 
--- src/lib.rt:376:14
 add-t4 : tie.Need-add-t4
 add-t4 c = search needs
 
--- src/lib.rt:366:1
 returns : tie.Need-returns
 unfolding placesOf
 returns c = refl

@@ -1,24 +1,14 @@
+-- `exercise::rows_part` meets its contract. Assumes nothing.
 use Rattle.exercise.proofs.Reader.{stretch-accepted, stretch-refused}
-use Rattle.exercise.specs.File.{throughLength, fileRefusal, places, part, rowPart}
-use Rattle.ints.specs.Refusal.{pick}
-use borrow.Author.Tests.{eq-eqb, ne-eqb}
-use lib.Dec.{eqb}
-use Prim.Native.Nat.{ℕ, _+_}
-use mathlib.Core.List.{List, []}
+use Rattle.exercise.specs.File.{throughLength, part}
 use Rattle.exercise.specs.declared.Places.{Places}
 use Rattle.exercise.proofs.Whole.{Found, found, whole, small-read}
 use Rattle.ints.proofs.Turns.{then-none}
 use native.Mathlib.Omega.{arith}
-use mathlib.Core.Bool.{Bool}
-use mathlib.Core.Path.{_≡_, refl, sym, ap, ap₂, _∙_}
+use mathlib.Core.Path.{_≡_, refl, sym, ap, _∙_}
 use borrow.Author.Needs.{needs}
 use Rattle.exercise.proofs.rows_part.Statement.{statement}
 use Rattle.exercise.proofs.rows_part.Tie as tie
-use Rattle.exercise.proofs.rows_part.Reads as reads
-use Rattle.exercise.proofs.rows_part.Lts as lts
-use Rattle.exercise.proofs.check.Reads as check-reads
-use Rattle.exercise.proofs.places_of.Reads as places-of-reads
-use Rattle.exercise.proofs.read_header.Reads as read-header-reads
 
 accepted : (c : tie.Else1) → throughLength (c .before .before .before .args .file .now) ≡ 0
 accepted c = then-none _ _ (sym (c .before .check .ensures) ∙ c .if1 .left) .0
@@ -26,47 +16,36 @@ accepted c = then-none _ _ (sym (c .before .check .ensures) ∙ c .if1 .left) .0
 at : (c : tie.After-places-of) → Found (c .before .before .before .before .before .args .file .now) (c .before .read-header .result) (c .places-of .result)
 at c = found _ (accepted (c .before .before)) _ (c .before .read-header .ensures) _ (c .places-of .ensures)
 
--- src/lib.rt:488:8
 check-requires : tie.Need-check-requires
 check-requires c κs = search needs
 
--- src/lib.rt:489:16
 sub-result : tie.Need-sub-result
 sub-result c = search needs
 
--- src/lib.rt:489:16
 part-result-start : tie.Need-part-result-start
 part-result-start c = search needs
 
--- src/lib.rt:489:16
 part-result-end : tie.Need-part-result-end
 part-result-end c = search needs
 
--- src/lib.rt:489:9
 returns : tie.Need-returns
 returns c = let s = stretch-refused _ (λ z. c .before .if1 .taken (c .before .before .check .ensures ∙ z)) in (sym (s .0), (refl, omega (arith, s .1)))
 
--- src/lib.rt:491:28
 read-header-requires : tie.Need-read-header-requires
 read-header-requires c κs = whole _ (accepted c) .begun
 
--- src/lib.rt:491:9
 places-of-requires : tie.Need-places-of-requires
 places-of-requires c κs = small-read _ _ (c .read-header .ensures)
 
--- src/lib.rt:494:5
 sub-result-2 : tie.Need-sub-result-2
 sub-result-2 c = let f = at c in omega arith
 
--- src/lib.rt:494:5
 part-result-start-2 : tie.Need-part-result-start-2
 part-result-start-2 c = let f = at c in omega arith
 
--- src/lib.rt:494:5
 part-result-end-2 : tie.Need-part-result-end-2
 part-result-end-2 c = let f = at c in omega arith
 
--- src/lib.rt:483:1
 returns-2 : tie.Need-returns-2
 returns-2 c = let p = c .before in
     let file = p .before .before .before .before .before .args .file .now in
