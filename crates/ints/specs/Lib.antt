@@ -3,3 +3,4 @@ pub mod Sum
 pub mod Table
 pub mod Refusal
 pub mod Twos
+pub mod Turn

@@ -1,0 +1,5 @@
+pub mod Prices
+pub mod Whole
+pub mod Reader
+pub mod Accepted
+pub mod Unique

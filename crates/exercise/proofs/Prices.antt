@@ -1,0 +1,43 @@
+-- Prices that have no refusal are in range, and an interval's own stretch holds its prices. Assumes nothing.
+use mathlib.Core.Path.{_≡_, sym, _∙_, subst}
+use mathlib.Core.List.{List}
+use Prim.Native.Nat.{ℕ, _+_, _*_, _≤_, _<_}
+use native.Mathlib.Decide.{decLt}
+use native.Mathlib.Nat.{mul-le-mul-right, suc-mul}
+use native.Mathlib.Omega.{arith}
+use lib.IntN.{ℤ, pos, negℤ}
+use lib.ListN.{drop, List·getD-eq-default}
+use lib.Seq.{getD-take, getD-drop}
+use Rattle.ints.specs.Number.{between, Within}
+use Rattle.ints.specs.Table.{_at_}
+use Rattle.ints.proofs.Refusals.{passed}
+use Rattle.ints.proofs.Sizes.{w-lit, w-up}
+use Rattle.ints.proofs.Tables.{length-tab, getD-tab}
+use Rattle.ints.proofs.Tests.{between-size}
+use Rattle.ints.proofs.Turns.{turn-none}
+use Rattle.exercise.specs.Price.{priceAt, pricesFrom, priceRefusal, pricesRefusal, intervalOf}
+
+-- the stretch of one of n intervals lies within the n
+pub room : (k n l : ℕ) → k < n → k * l + l ≤ n * l
+room k n l h = rw suc-mul at (mul-le-mul-right l h)
+
+price-within : (price : ℤ) → priceRefusal price ≡ 0 → Within price 5000000
+unfolding priceRefusal
+price-within price e = record { within = between-size price 5000000 (passed (between (negℤ (pos 5000000)) (pos 5000000) price) 1 0 e .0) }
+
+module _ (s : List ℕ) (n : ℕ) (e : pricesRefusal s n ≡ 0) where
+  -- every number of a list that is read from the first n prices; past its end stands 0
+  pub prices-within : (j m : ℕ) → j + m ≤ n → (i : ℕ) → Within (pricesFrom s j m at i) 5000000
+  prices-within j m h i = by (decLt i m)
+    where
+      by : Dec (i < m) → Within (pricesFrom s j m at i) 5000000
+      by (yes l) =
+          subst (λ (z : ℤ). Within z 5000000) (sym (getD-tab (λ i. priceAt s (j + i)) (pos 0) m i l))
+          (price-within (priceAt s (j + i)) (turn-none (λ j. priceRefusal (priceAt s j)) n e (j + i) (omega arith)))
+      by (no l) =
+          let none : pricesFrom s j m at i ≡ pos 0 = List·getD-eq-default (pricesFrom s j m) (pos 0) (omega (arith, length-tab (λ i. priceAt s (j + i)) m)) in
+          subst (λ (z : ℤ). Within z 5000000) (sym none) (w-up (w-lit {x = pos 0} {k = 0} tt) (omega arith))
+
+-- location l in interval k's own stretch
+pub interval-at : (prices : List ℤ) (locations k l : ℕ) → l < locations → intervalOf prices locations k at l ≡ prices at (k * locations + l)
+interval-at prices locations k l h = getD-take locations (drop (k * locations) prices) l (pos 0) h ∙ getD-drop (k * locations) prices l (pos 0)

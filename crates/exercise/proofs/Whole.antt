@@ -1,0 +1,67 @@
+-- A file that passes the order to its length: it has exactly the length that its header says, and its parts lie one after the other. Assumes nothing.
+use mathlib.Core.Path.{_≡_, sym, ap, _∙_, subst}
+use mathlib.Core.List.{List}
+use Prim.Native.Nat.{ℕ, _+_, _*_, _-_, _≤_}
+use native.Mathlib.Omega.{arith}
+use lib.Dec.{leb, eqb}
+use lib.ListN.{length, length-take, length-drop}
+use borrow.Author.Tests.{leb-true, eqb-true}
+use Rattle.ints.proofs.Refusals.{passed}
+use Rattle.exercise.specs.declared.Header.{Header}
+use Rattle.exercise.specs.declared.Places.{Places}
+use Rattle.exercise.specs.File.{headerSize, header, Small, placesOf, places, part, headerRefusal, throughLength}
+
+pub small : (file : List ℕ) → Small (header file)
+unfolding header
+small file = record { participants = omega arith; locations = omega arith; rows = omega arith; transactions = omega arith }
+
+-- where the parts lie
+pub record Laid (h : Header) (p : Places) : Type 0 where
+  pub first : p .prices ≡ 5
+  pub prices : p .prices + 3 * (26 * h .locations) ≡ p .rows
+  pub rows : p .rows + 6 * h .rows ≡ p .transactions
+  pub transactions : p .transactions + 6 * h .transactions ≡ p .end
+
+pub laid : (h : Header) → Laid h (placesOf h)
+unfolding placesOf
+laid h = record { first = omega arith; prices = omega arith; rows = omega arith; transactions = omega arith }
+
+pub record Whole (file : List ℕ) : Type 0 where
+  pub rows : header file .rows ≤ 2048
+  pub transactions : header file .transactions ≤ 256
+  pub begun : 5 ≤ length file
+  pub ended : length file ≡ places file .end
+
+pub whole : (file : List ℕ) → throughLength file ≡ 0 → Whole file
+unfolding throughLength headerRefusal
+whole file e =
+    let h = header file in
+    let p1 = passed (leb headerSize (length file)) 8 _ e in
+    let p2 = passed (eqb (h .spare) 0) 8 _ (p1 .1) in
+    let p3 = passed (leb (h .rows) 2048) 0 _ (p2 .1) in
+    let p4 = passed (leb (h .transactions) 256) 0 _ (p3 .1) in
+    let p5 = passed (eqb (length file) (places file .end)) 8 0 (p4 .1) in
+    record {
+      rows = leb-true (h .rows) 2048 (p3 .0);
+      transactions = leb-true (h .transactions) 256 (p4 .0);
+      begun = leb-true 5 (length file) (p1 .0);
+      ended = eqb-true (length file) (places file .end) (p5 .0);
+    }
+
+-- the same of what code has read
+pub record Found (file : List ℕ) (h : Header) (p : Places) : Type 0 where
+  pub lies : Laid h p
+  pub same : p ≡ places file
+  pub last : length file ≡ p .end
+
+pub found : (file : List ℕ) → throughLength file ≡ 0 → (h : Header) → h ≡ header file → (p : Places) → p ≡ placesOf h → Found file h p
+found file e h f p g =
+    let same = g ∙ ap placesOf f in
+    record { lies = subst (Laid h) (sym g) (laid h); same = same; last = whole file e .ended ∙ ap (λ (q : Places). q .end) (sym same) }
+
+pub small-read : (file : List ℕ) (h : Header) → h ≡ header file → Small h
+small-read file h e = subst Small (sym e) (small file)
+
+-- a part that lies within a file has the bytes between its two places
+pub part-length : (from to : ℕ) (file : List ℕ) → from ≤ to → to ≤ length file → length (part from to file) ≡ to - from
+part-length from to file h l = simp (length-take, length-drop) (omega arith)

@@ -1,0 +1,29 @@
+-- `exercise::through_length` meets its contract. Assumes nothing.
+use Rattle.exercise.proofs.Whole.{small-read}
+use Rattle.exercise.specs.File.{headerRefusal, throughLength}
+use Rattle.exercise.specs.declared.Header.{Header}
+use borrow.Author.Tests.{le-leb, lt-leb}
+use lib.ListN.{length}
+use mathlib.Core.Path.{ap, _∙_}
+use borrow.Author.Needs.{needs}
+use Rattle.exercise.proofs.through_length.Statement.{statement}
+use Rattle.exercise.proofs.through_length.Tie as tie
+
+returns : tie.Need-returns
+unfolding throughLength
+returns c = simp (lt-leb _ _ (c .if1 .taken))
+
+read-header-requires : tie.Need-read-header-requires
+read-header-requires c κs = search needs
+
+header-refusal-requires : tie.Need-header-refusal-requires
+header-refusal-requires c κs = small-read _ _ (c .read-header .ensures)
+
+returns-2 : tie.Need-returns-2
+unfolding throughLength
+returns-2 c = let n = length (c .before .before .before .before .args .file .now) in
+    simp (le-leb _ _ (c .before .before .if1 .left)) (c .header-refusal .ensures ∙ ap (λ (h : Header). headerRefusal h n) (c .before .read-header .ensures))
+
+pub through-length-spec : {M : Type 1} → statement M
+through-length-spec =
+    tie.close (tie.spec returns read-header-requires header-refusal-requires returns-2)

@@ -1,0 +1,104 @@
+-- Laws of orders of refusals one after the other, of tests in turn, and of answers. Assumes nothing.
+use mathlib.Core.Path.{_≡_, refl, sym, ap, _∙_}
+use mathlib.Core.Logic.{⊎-elim}
+use mathlib.Core.Bool.{Bool, true, false}
+use Prim.Native.Nat.{ℕ, zero, suc, _+_, _<_}
+use native.Mathlib.Nat.{eq-or-lt-of-le, le-of-suc-le-suc, not-suc-le-zero}
+use native.Mathlib.Numerals.{add-one}
+use lib.Dec.{eqb}
+use borrow.Author.Tests.{eq-eqb, ne-eqb, eqb-true, eqb-false}
+use Rattle.ints.specs.Refusal.{pick}
+use Rattle.ints.specs.Turn.{_then_, inTurn, answer}
+
+-- ---- two orders
+
+module _ (earlier later : ℕ) where
+  then-later : earlier ≡ 0 → (earlier then later) ≡ later
+  then-later e = ap (λ (b : Bool). pick b later earlier) (eq-eqb earlier 0 e)
+
+  then-earlier : (earlier ≡ 0 → ⊥) → (earlier then later) ≡ earlier
+  then-earlier some = ap (λ (b : Bool). pick b later earlier) (ne-eqb earlier 0 some)
+
+  -- the answer r of a call that goes by the earlier order: it ends there, or the later order follows
+  pub then-ends : (r : ℕ) → (r ≡ 0 → ⊥) → r ≡ earlier → r ≡ (earlier then later)
+  then-ends r some e = e ∙ sym (then-earlier (λ z. some (e ∙ z)))
+
+  pub then-follows : (r : ℕ) → r ≡ 0 → r ≡ earlier → later ≡ (earlier then later)
+  then-follows r z e = sym (then-later (sym e ∙ z))
+
+  -- no refusal of the two together: none of either
+  pub then-none : (earlier then later) ≡ 0 → (earlier ≡ 0) × (later ≡ 0)
+  then-none e = by (eqb earlier 0) refl
+    where
+      by : (b : Bool) → eqb earlier 0 ≡ b → (earlier ≡ 0) × (later ≡ 0)
+      by true t = (eqb-true earlier 0 t, sym (ap (λ (b : Bool). pick b later earlier) t) ∙ e)
+      by false t = absurd (eqb-false earlier 0 t (sym (ap (λ (b : Bool). pick b later earlier) t) ∙ e))
+
+-- ---- in turn
+
+module _ (f : ℕ → ℕ) where
+  pub turn-start : inTurn f 0 ≡ 0
+  unfolding inTurn
+  turn-start = refl
+
+  pub turn-next : (i : ℕ) → inTurn f i ≡ 0 → f i ≡ 0 → inTurn f (i + 1) ≡ 0
+  unfolding inTurn
+  turn-next i e g = ap (inTurn f) (add-one i) ∙ then-later (inTurn f i) (f i) e ∙ g
+
+  -- the first refusal is that of all
+  pub turn-first : (i n : ℕ) → i < n → inTurn f i ≡ 0 → (f i ≡ 0 → ⊥) → inTurn f n ≡ f i
+  unfolding inTurn
+  turn-first i zero h e some = absurd (not-suc-le-zero h)
+  turn-first i (suc n) h e some =
+      ⊎-elim
+      (λ q. ap (λ (k : ℕ). inTurn f k then f k) (sym q) ∙ then-later (inTurn f i) (f i) e)
+      (λ l. let g : inTurn f n ≡ f i = turn-first i n l e some in then-earlier (inTurn f n) (f n) (λ z. some (sym g ∙ z)) ∙ g)
+      (eq-or-lt-of-le (le-of-suc-le-suc h))
+
+  -- no refusal in turn: none of any
+  pub turn-none : (n : ℕ) → inTurn f n ≡ 0 → (i : ℕ) → i < n → f i ≡ 0
+  unfolding inTurn
+  turn-none zero e i h = absurd (not-suc-le-zero h)
+  turn-none (suc n) e i h =
+      let both = then-none (inTurn f n) (f n) e in
+      ⊎-elim (λ q. ap f q ∙ both .1) (λ l. turn-none n (both .0) i l) (eq-or-lt-of-le (le-of-suc-le-suc h))
+
+-- ---- answers
+
+module _ {X D : Type 0} (accepted : X → D) (refused : ℕ → D) (refusal : ℕ) (x : X) where
+  pub answer-refused : (r : ℕ) → (r ≡ 0 → ⊥) → r ≡ refusal → refused r ≡ answer accepted refused refusal x
+  answer-refused r some e = ap refused e ∙ sym (ap (λ (b : Bool). pick b (accepted x) (refused refusal)) (ne-eqb refusal 0 (λ z. some (e ∙ z))))
+
+  pub answer-accepted : (y : X) → refusal ≡ 0 → y ≡ x → accepted y ≡ answer accepted refused refusal x
+  answer-accepted y e q = ap accepted q ∙ sym (ap (λ (b : Bool). pick b (accepted x) (refused refusal)) (eq-eqb refusal 0 e))
+
+-- answers in turn: of a type with a number for each case, 0 for what is accepted
+module _ {X D : Type 0} (accepted : X → D) (refused : ℕ → D) (number : D → ℕ) where
+  module _ (no : (x : X) → number (accepted x) ≡ 0) (own : (r : ℕ) → number (refused r) ≡ r) where
+    pub answer-number : (refusal : ℕ) (x : X) → number (answer accepted refused refusal x) ≡ refusal
+    answer-number refusal x = by (eqb refusal 0) refl
+      where
+        by : (t : Bool) → eqb refusal 0 ≡ t → number (pick t (accepted x) (refused refusal)) ≡ refusal
+        by true t = no x ∙ sym (eqb-true refusal 0 t)
+        by false t = own refusal
+
+    module _ (f : ℕ → ℕ) (things : ℕ → X) (i : ℕ) (before : inTurn f i ≡ 0) (d : D) (e : d ≡ answer accepted refused (f i) (things i)) where
+      -- an accepted thing
+      pub answer-next : (x : X) → d ≡ accepted x → inTurn f (i + 1) ≡ 0
+      answer-next x q = turn-next f i before (sym (answer-number (f i) (things i)) ∙ ap number (sym e ∙ q) ∙ no x)
+
+      -- the first refused one
+      pub answer-first : ((x : X) (r : ℕ) → accepted x ≡ refused r → ⊥) → (r n : ℕ) → d ≡ refused r → i < n → number d ≡ inTurn f n
+      answer-first apart r n q h = ap number e ∙ answer-number (f i) (things i) ∙ sym (turn-first f i n h before some)
+        where
+          some : f i ≡ 0 → ⊥
+          some z = apart (things i) r (answer-accepted accepted refused (f i) (things i) (things i) z refl ∙ sym e ∙ q)
+
+-- what an answer is, where it is accepted: the thing, which has no refusal
+pub answer-taken : {X D : Type 0} (accepted : X → D) (refused : ℕ → D) → ((x y : X) → accepted x ≡ accepted y → x ≡ y) → ((x : X) (r : ℕ) → accepted x ≡ refused r → ⊥)
+    → (refusal : ℕ) (x y : X) → answer accepted refused refusal x ≡ accepted y → (refusal ≡ 0) × (x ≡ y)
+answer-taken {X} accepted refused inside apart refusal x y = by (eqb refusal 0) refl
+  where
+    by : (t : Bool) → eqb refusal 0 ≡ t → pick t (accepted x) (refused refusal) ≡ accepted y → (refusal ≡ 0) × (x ≡ y)
+    by true t e = (eqb-true refusal 0 t, inside x y e)
+    by false t e = absurd (apart y refusal (sym e))

@@ -1,0 +1,18 @@
+-- Orders of refusals one after the other, and tests in turn. A refusal is a number, and 0 is none. Assumes nothing.
+use Prim.Native.Nat.{ℕ, zero, suc}
+use lib.Dec.{eqb}
+use Rattle.ints.specs.Refusal.{pick}
+
+-- the earlier order's refusal, and where it gives none the later one's
+infixr 50 _then_
+abbrev pub _then_ : ℕ → ℕ → ℕ
+earlier then later = pick (eqb earlier 0) later earlier
+
+-- the refusals f 0 .. f (n - 1) in turn: the first that is one
+unfoldable pub inTurn : (ℕ → ℕ) → ℕ → ℕ
+inTurn f zero = 0
+inTurn f (suc n) = inTurn f n then f n
+
+-- a thing that is read, or its refusal, as a type of two cases has them
+abbrev pub answer : {X D : Type 0} → (X → D) → (ℕ → D) → ℕ → X → D
+answer accepted refused refusal x = pick (eqb refusal 0) (accepted x) (refused refusal)

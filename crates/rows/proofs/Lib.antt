@@ -1,0 +1,5 @@
+pub mod Packed
+pub mod Given
+pub mod Answers
+pub mod Tested
+pub mod Unique

@@ -1,0 +1,76 @@
+-- Rows of document 01, "Cases", and of others that are refused, computed by the definitions. Assumes nothing.
+use mathlib.Core.Path.{_≡_, refl}
+use mathlib.Core.List.{List, [], _∷_}
+use Prim.Native.Nat.{ℕ}
+use lib.IntN.{pos, negsuc}
+use Rattle.rows.specs.Packed.{bytesAt}
+use Rattle.rows.specs.Row.{rowRefusal}
+use Rattle.rows.specs.Transaction.{transactionRefusal}
+use Rattle.rows.specs.Alone.{decodedRow, decodedTransaction}
+use Rattle.rows.specs.declared.DecodedRow.the-variants.{Decoded, Refused}
+use Rattle.rows.specs.declared.DecodedTransaction.the-variants as DecodedTransaction
+
+abbrev six : ℕ → ℕ → ℕ → ℕ → ℕ → ℕ → List ℕ
+six a b c d e f = a ∷ b ∷ c ∷ d ∷ e ∷ f ∷ []
+
+-- ---- the three rows of the statement program
+
+-- real time, load, interval 0, participant 0, location 1, 200,000 kW
+load : decodedRow (pos 2) (pos 2) (six 0x80 0x00 0x10 0x18 0x6A 0x00)
+    ≡ Decoded (record { market = 1; kind = 0; interval = 0; participant = 0; location = 1; kw = record { 0 = 200000 } })
+unfolding bytesAt rowRefusal
+load = refl
+
+-- real time, generation, interval 0, participant 1, location 0, 110,000 kW
+generation : decodedRow (pos 2) (pos 2) (six 0x90 0x04 0x00 0x0D 0x6D 0x80)
+    ≡ Decoded (record { market = 1; kind = 1; interval = 0; participant = 1; location = 0; kw = record { 0 = 110000 } })
+unfolding bytesAt rowRefusal
+generation = refl
+
+-- real time, export, interval 0, participant 1, location 1, 100,000 kW
+export : decodedRow (pos 2) (pos 2) (six 0xA0 0x04 0x10 0x0C 0x35 0x00)
+    ≡ Decoded (record { market = 1; kind = 2; interval = 0; participant = 1; location = 1; kw = record { 0 = 100000 } })
+unfolding bytesAt rowRefusal
+export = refl
+
+-- ---- refusals, in their order
+
+no-participants : decodedRow (negsuc 0) (pos 65) [] ≡ Refused 1
+no-participants = refl
+
+many-locations : decodedRow (pos 64) (pos 65) [] ≡ Refused 1
+many-locations = refl
+
+five-bytes : decodedRow (pos 1) (pos 1) (0xF0 ∷ 0xFF ∷ 0xFF ∷ 0xFF ∷ 0xFF ∷ []) ≡ Refused 9
+five-bytes = refl
+
+-- a decrement bid in real time, with everything else wrong, too
+bid : decodedRow (pos 1) (pos 1) (six 0xC0 0xFF 0xFF 0xFF 0xFF 0xFF) ≡ Refused 4
+unfolding bytesAt rowRefusal
+bid = refl
+
+-- a day-ahead row at interval 3
+late : decodedRow (pos 1) (pos 1) (six 0x03 0x00 0x00 0x00 0x00 0x00) ≡ Refused 4
+unfolding bytesAt rowRefusal
+late = refl
+
+-- participant 2 of 2
+stranger : decodedRow (pos 2) (pos 2) (six 0x80 0x08 0x00 0x00 0x00 0x00) ≡ Refused 3
+unfolding bytesAt rowRefusal
+stranger = refl
+
+-- 20,000,001 kW and a spare bit, and the spare bit alone
+much : decodedRow (pos 1) (pos 1) (six 0x00 0x00 0x09 0x89 0x68 0x09) ≡ Refused 2
+unfolding bytesAt rowRefusal
+much = refl
+
+spare : decodedRow (pos 1) (pos 1) (six 0x00 0x00 0x09 0x89 0x68 0x01) ≡ Refused 9
+unfolding bytesAt rowRefusal
+spare = refl
+
+-- ---- a transaction: real time, interval 11, participant 1, from location 2 to location 3, 20,000,000 kW
+
+path : decodedTransaction (pos 2) (pos 4) (six 0xD8 0x21 0x07 0x31 0x2D 0x00)
+    ≡ DecodedTransaction.Decoded (record { market = 1; interval = 11; participant = 1; source = 2; sink = 3; kw = record { 0 = 20000000 } })
+unfolding bytesAt transactionRefusal
+path = refl

@@ -1,0 +1,6 @@
+pub mod Packed
+pub mod Row
+pub mod Transaction
+pub mod Alone
+pub mod Tested
+pub mod Cases

@@ -1,0 +1,286 @@
+// The rows and transactions of the exercise file (document 01, "The exercise file"), six packed bytes each: decoded, one by one and in turn.
+ghost use mathlib.Core.Path.{_≡_};
+ghost use Prim.Native.Nat.{_+_, _*_, _≤_, _<_};
+ghost use lib.ListN.{length};
+ghost use Rattle.rows.specs.Packed.{bytesAt};
+ghost use Rattle.rows.specs.Row.{rowOf, hasKind, hasInterval, rowRefusal, decodedRowAt, rowNumber, rowsRefusal};
+ghost use Rattle.rows.specs.Transaction.{transactionOf, transactionRefusal, decodedTransactionAt, transactionNumber, transactionsRefusal};
+ghost use Rattle.rows.specs.Alone.{givenRefusal, decodedRow, decodedTransaction};
+use units::Kw;
+
+// A position: what a participant withdraws or injects at a location.
+pub struct Row {
+    pub market: u8,
+    pub kind: u8,
+    pub interval: u8,
+    pub participant: u8,
+    pub location: u16,
+    pub kw: Kw,
+}
+
+// What a participant carries from a source to a sink.
+pub struct Transaction {
+    pub market: u8,
+    pub interval: u8,
+    pub participant: u8,
+    pub source: u16,
+    pub sink: u16,
+    pub kw: Kw,
+}
+
+// A row, or the number of its refusal.
+pub enum DecodedRow {
+    Decoded(Row),
+    Refused(u32),
+}
+
+// A transaction, or the number of its refusal.
+pub enum DecodedTransaction {
+    Decoded(Transaction),
+    Refused(u32),
+}
+
+// The three bytes from k on, the first highest.
+pub fn three_at(s: &[u8], k: usize) -> u64
+    requires { ⌜ k + 3 ≤ length (now s) ⌝ }
+    ensures { λ r. ⌜ r ≡ bytesAt (now (s .entry)) k 3 × (r < 16777216) ⌝ }
+{
+    65536 * ints::wide(s[k]) + 256 * ints::wide(s[k + 1]) + ints::wide(s[k + 2])
+}
+
+// The six bytes from k on, the first highest.
+fn six_at(s: &[u8], k: usize) -> u64
+    requires { ⌜ k + 6 ≤ length (now s) ⌝ }
+    ensures { λ r. ⌜ r ≡ bytesAt (now (s .entry)) k 6 ⌝ }
+{
+    16777216 * three_at(s, k) + three_at(s, k + 3)
+}
+
+// Whether the market has the kind, and the interval.
+fn has_kind(market: u8, kind: u8) -> bool
+    ensures { λ r. ⌜ r ≡ hasKind market kind ⌝ }
+{
+    if market == 0 { kind <= 5 } else { kind <= 3 }
+}
+
+fn has_interval(market: u8, interval: u8) -> bool
+    ensures { λ r. ⌜ r ≡ hasInterval market interval ⌝ }
+{
+    if market == 0 {
+        interval == 0
+    } else {
+        interval <= 11
+    }
+}
+
+// ---- rows
+
+// The row of 48 bits.
+fn row_of(v: u64) -> Row
+    ensures { λ r. ⌜ r ≡ rowOf v ⌝ }
+{
+    Row {
+        market: (v / 140737488355328 % 2) as u8,
+        kind: (v / 17592186044416 % 8) as u8,
+        interval: (v / 1099511627776 % 16) as u8,
+        participant: (v / 17179869184 % 64) as u8,
+        location: (v / 268435456 % 64) as u16,
+        kw: Kw((v / 8 % 33554432) as u32),
+    }
+}
+
+// The refusal of a row with its spare bits, 0 where there is none.
+fn row_refusal(participants: usize, locations: usize, row: Row, spare: u64) -> u32
+    ensures { λ r. ⌜ r ≡ rowRefusal participants locations row spare ⌝ }
+{
+    if !has_kind(row.market, row.kind) {
+        return 4;
+    }
+    if !has_interval(row.market, row.interval) {
+        return 4;
+    }
+    if row.participant as usize >= participants {
+        return 3;
+    }
+    if row.location as usize >= locations {
+        return 3;
+    }
+    if row.kw.0 > 20_000_000 {
+        return 2;
+    }
+    if spare != 0 {
+        return 9;
+    }
+    0
+}
+
+// Row i of a stretch of rows.
+pub fn row_at(participants: usize, locations: usize, rows: &[u8], i: usize) -> DecodedRow
+    requires { ⌜ 6 * i + 6 ≤ length (now rows) ⌝ }
+    ensures { λ r. ⌜ r ≡ decodedRowAt participants locations (now (rows .entry)) i ⌝ }
+{
+    let v = six_at(rows, 6 * i);
+    let row = row_of(v);
+    let refusal = row_refusal(participants, locations, row, v / 1 % 8);
+    if refusal != 0 {
+        return DecodedRow::Refused(refusal);
+    }
+    DecodedRow::Decoded(row)
+}
+
+// The number of the refusal; 0 for a row.
+pub fn row_number(decoded: DecodedRow) -> u32
+    ensures { λ r. ⌜ r ≡ rowNumber decoded ⌝ }
+{
+    match decoded {
+        DecodedRow::Decoded(_) => 0,
+        DecodedRow::Refused(refusal) => refusal,
+    }
+}
+
+// The refusal of the first n rows of a stretch in turn, 0 where there is none.
+pub fn rows_refusal(participants: usize, locations: usize, rows: &[u8], n: usize) -> u32
+    requires { ⌜ 6 * n ≤ length (now rows) ⌝ }
+    ensures { λ r. ⌜ r ≡ rowsRefusal participants locations (now (rows .entry)) n ⌝ }
+{
+    let mut i: usize = 0;
+    while i < n {
+        let decoded = row_at(participants, locations, rows, i);
+        let DecodedRow::Decoded(_) = decoded else {
+            return row_number(decoded);
+        };
+        i += 1;
+    }
+    0
+}
+
+// ---- transactions
+
+// The transaction of 48 bits.
+fn transaction_of(v: u64) -> Transaction
+    ensures { λ r. ⌜ r ≡ transactionOf v ⌝ }
+{
+    Transaction {
+        market: (v / 140737488355328 % 2) as u8,
+        interval: (v / 8796093022208 % 16) as u8,
+        participant: (v / 137438953472 % 64) as u8,
+        source: (v / 2147483648 % 64) as u16,
+        sink: (v / 33554432 % 64) as u16,
+        kw: Kw((v / 1 % 33554432) as u32),
+    }
+}
+
+// The refusal of a transaction, 0 where there is none.
+fn transaction_refusal(participants: usize, locations: usize, transaction: Transaction) -> u32
+    ensures { λ r. ⌜ r ≡ transactionRefusal participants locations transaction ⌝ }
+{
+    if !has_interval(transaction.market, transaction.interval) {
+        return 4;
+    }
+    if transaction.participant as usize >= participants {
+        return 3;
+    }
+    if transaction.source as usize >= locations {
+        return 3;
+    }
+    if transaction.sink as usize >= locations {
+        return 3;
+    }
+    if transaction.kw.0 > 20_000_000 {
+        return 2;
+    }
+    0
+}
+
+// Transaction i of a stretch of transactions.
+pub fn transaction_at(
+    participants: usize,
+    locations: usize,
+    transactions: &[u8],
+    i: usize,
+) -> DecodedTransaction
+    requires { ⌜ 6 * i + 6 ≤ length (now transactions) ⌝ }
+    ensures { λ r. ⌜ r ≡ decodedTransactionAt participants locations (now (transactions .entry)) i ⌝ }
+{
+    let transaction = transaction_of(six_at(transactions, 6 * i));
+    let refusal = transaction_refusal(participants, locations, transaction);
+    if refusal != 0 {
+        return DecodedTransaction::Refused(refusal);
+    }
+    DecodedTransaction::Decoded(transaction)
+}
+
+// The number of the refusal; 0 for a transaction.
+pub fn transaction_number(decoded: DecodedTransaction) -> u32
+    ensures { λ r. ⌜ r ≡ transactionNumber decoded ⌝ }
+{
+    match decoded {
+        DecodedTransaction::Decoded(_) => 0,
+        DecodedTransaction::Refused(refusal) => refusal,
+    }
+}
+
+// The refusal of the first n transactions of a stretch in turn, 0 where there is none.
+pub fn transactions_refusal(
+    participants: usize,
+    locations: usize,
+    transactions: &[u8],
+    n: usize,
+) -> u32
+    requires { ⌜ 6 * n ≤ length (now transactions) ⌝ }
+    ensures { λ r. ⌜ r ≡ transactionsRefusal participants locations (now (transactions .entry)) n ⌝ }
+{
+    let mut i: usize = 0;
+    while i < n {
+        let decoded = transaction_at(participants, locations, transactions, i);
+        let DecodedTransaction::Decoded(_) = decoded else {
+            return transaction_number(decoded);
+        };
+        i += 1;
+    }
+    0
+}
+
+// ---- one row, or one transaction, by itself
+
+// The refusal of the counts and the number of bytes, 0 where there is none.
+fn given_refusal(participants: i64, locations: i64, bytes: usize, size: usize) -> u32
+    ensures { λ r. ⌜ r ≡ givenRefusal participants locations bytes size ⌝ }
+{
+    if !ints::is_between(participants, 1, 64) {
+        return 1;
+    }
+    if !ints::is_between(locations, 1, 64) {
+        return 1;
+    }
+    if bytes != size {
+        return 9;
+    }
+    0
+}
+
+// One row of six bytes.
+pub fn decode_row(participants: i64, locations: i64, row: &[u8]) -> DecodedRow
+    ensures { λ r. ⌜ r ≡ decodedRow participants locations (now (row .entry)) ⌝ }
+{
+    let refusal = given_refusal(participants, locations, row.len(), 6);
+    if refusal != 0 {
+        return DecodedRow::Refused(refusal);
+    }
+    row_at(participants as usize, locations as usize, row, 0)
+}
+
+// One transaction of six bytes.
+pub fn decode_transaction(
+    participants: i64,
+    locations: i64,
+    transaction: &[u8],
+) -> DecodedTransaction
+    ensures { λ r. ⌜ r ≡ decodedTransaction participants locations (now (transaction .entry)) ⌝ }
+{
+    let refusal = given_refusal(participants, locations, transaction.len(), 6);
+    if refusal != 0 {
+        return DecodedTransaction::Refused(refusal);
+    }
+    transaction_at(participants as usize, locations as usize, transaction, 0)
+}
