@@ -171,6 +171,70 @@ uint32_t wz_assign_load(int64_t metered, int64_t distributor,
                         const uint8_t *tranches, size_t tranches_len,
                         uint8_t *out, size_t out_len);
 
+/*
+ * wz_settle_hour: settle one market hour from an exercise file.
+ *
+ *   file        the file as its own bytes: header, prices, rows and
+ *               transactions, packed as document 01 says; file_len is 83 to
+ *               18,821
+ *   congestion  written: each participant's congestion charge
+ *   loss        written: each participant's loss charge
+ *   credit      written: each participant's credit from the loss surplus
+ *   net         written: each participant's charges less its credit
+ *
+ * The four lists are in cents and have a number for each participant of the
+ * file, 1 to 64, so each length is 8 to 512. A charge below 0 is paid out.
+ *
+ * Day-ahead a participant pays, at each location, withdrawals less injections
+ * times the price. In each of the 12 real-time intervals it pays what it
+ * withdraws less what it injects beyond its day-ahead kW there, times the
+ * interval's price over 12; day-ahead kW stand in every interval, also where
+ * no real-time row does. A transaction costs its kW times the price at its
+ * sink less the price at its source; in real time only what differs from the
+ * participant's day-ahead kW of the same path counts, and a shortfall is paid
+ * back. Congestion and loss have their own prices. A participant's charge is
+ * added up exactly and rounded once, to the nearest cent, halves away from
+ * zero.
+ *
+ * The surplus is the sum of all loss charges. It is split, as wz_split does,
+ * over the participants by the kW of their real-time load and exports, added
+ * up over the rows. So credits and loss charges total the same cents.
+ *
+ *   Document 01's exercise, of 2 participants, 2 locations and 3 rows, gives
+ *   congestion 0, 0; loss 1000, 390; credit 927, 463; net 73, -73.
+ *
+ * Refusals, in their order:
+ *
+ *   WZ_FILE       the file has less than 5 bytes
+ *   WZ_FILE       a spare bit of the header is set
+ *   WZ_LENGTH     the header tells of more than 2,048 rows or 256 transactions
+ *   WZ_FILE       the file is shorter or longer than its header tells
+ *   WZ_LENGTH     congestion, loss, credit or net hasn't eight bytes for each
+ *                 participant
+ *   WZ_RANGE      a price is outside -5,000,000 to 5,000,000
+ *
+ *   then of each row in turn
+ *   WZ_KIND       kind, market and interval don't fit together
+ *   WZ_IDENTITY   its participant or location is none of the file's
+ *   WZ_RANGE      its kW are above 20,000,000
+ *   WZ_FILE       a spare bit is set
+ *
+ *   then of each transaction in turn
+ *   WZ_KIND       market and interval don't fit together
+ *   WZ_IDENTITY   its participant, source or sink is none of the file's
+ *   WZ_RANGE      its kW are above 20,000,000
+ *
+ *   WZ_SURPLUS    the surplus is below -1,000,000,000 or above 1,000,000,000
+ *                 cents, or a participant's real-time load and exports add up
+ *                 to more than 4,000,000,000 kW
+ *   WZ_NO_SHARES  the surplus isn't 0 and nobody has real-time load or exports
+ */
+uint32_t wz_settle_hour(const uint8_t *file, size_t file_len,
+                        uint8_t *congestion, size_t congestion_len,
+                        uint8_t *loss, size_t loss_len,
+                        uint8_t *credit, size_t credit_len,
+                        uint8_t *net, size_t net_len);
+
 #ifdef __cplusplus
 }
 #endif
