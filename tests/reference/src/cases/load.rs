@@ -82,6 +82,7 @@ fn draw(turn: usize, random: &mut Random) -> Case {
     }
     let round = turn / 16;
     match turn % 16 {
+        4 if round % 4 == 0 => contract_faults(random),
         5 => used_up(random),
         6 => sound(&Shape::small(random), Tranches::None, random),
         7 => distributor_holds(random),
@@ -621,6 +622,16 @@ fn spoilt(faults: &[&Fault], random: &mut Random) -> Case {
     let mut case = faultless(random);
     for fault in faults {
         fault.1(&mut case, random);
+    }
+    case
+}
+
+/// Two faults in contracts, by chance in the same one.
+fn contract_faults(random: &mut Random) -> Case {
+    let mut case = faultless(random);
+    for _ in 0..2 {
+        let (first, high) = random.pick(&[(0, 63), (1, case.areas - 1), (2, MOST_KW)]);
+        spoil(&mut case.contracts, first, 3, 0, high, random);
     }
     case
 }
