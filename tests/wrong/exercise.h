@@ -21,11 +21,12 @@ struct row {
 /* A number of so many bits, `at` bits from the start. */
 static inline int64_t bits_of(const uint8_t *bytes, size_t at, size_t count)
 {
-    int64_t number = 0;
+    size_t last = at + count - 1, i;
+    uint64_t word = 0;
 
-    for (; count > 0; count--, at++)
-        number = 2 * number + (bytes[at / 8] >> (7 - at % 8) & 1);
-    return number;
+    for (i = at / 8; i <= last / 8; i++)
+        word = word << 8 | bytes[i];
+    return (int64_t)(word >> (7 - last % 8) & (((uint64_t)1 << count) - 1));
 }
 
 static inline int64_t price_at(const uint8_t *file, size_t i)
