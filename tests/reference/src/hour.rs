@@ -169,7 +169,7 @@ fn narrow(cents: &[i128]) -> Vec<i64> {
 #[cfg(test)]
 mod tests {
     use super::*;
-    use crate::cases::file::File;
+    use crate::cases::file::{document_01, File};
     use crate::exercise::{DECREMENT, GENERATION, IMPORT, INCREMENT};
     use crate::numbers::unhex;
     use crate::vectors;
@@ -191,13 +191,7 @@ mod tests {
 
     #[test]
     fn statement_exercise() {
-        let mut file = unhex("0410030000");
-        file.extend([0; 78]);
-        for _ in 0..13 {
-            file.extend(unhex("000078000258"));
-        }
-        file.extend(unhex("800010186a009004000d6d80a004100c3500"));
-        let (number, [congestion, loss, credit, net]) = settled(&file, 2);
+        let (number, [congestion, loss, credit, net]) = settled(&document_01(), 2);
         assert_eq!(number, 0);
         assert_eq!(congestion, [0, 0]);
         assert_eq!(loss, [1000, 390]);

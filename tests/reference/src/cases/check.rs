@@ -14,7 +14,8 @@ pub fn line(turn: usize, random: &mut Random) -> String {
     format!("{}\t{}\t{start}\t{len}", hex(&file), check(&file))
 }
 
-fn draw(turn: usize, random: &mut Random) -> Vec<u8> {
+/// The file of a turn.
+pub fn draw(turn: usize, random: &mut Random) -> Vec<u8> {
     let round = turn / 8;
     match turn % 8 {
         0 => hour::file_with_two_faults(round, random),

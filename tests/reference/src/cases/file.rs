@@ -1,6 +1,7 @@
 //! Builds exercise files, sound or damaged.
 
 use crate::exercise::{Row, Transaction, INTERVALS};
+use crate::numbers::unhex;
 
 pub struct BitWriter {
     pub bytes: Vec<u8>,
@@ -129,6 +130,15 @@ impl File {
         }
         writer.bytes
     }
+}
+
+/// The exercise of document 01: two participants, two locations, three rows.
+pub fn document_01() -> Vec<u8> {
+    let mut file = unhex("0410030000");
+    file.extend([0; 78]);
+    file.extend(unhex("000078000258").repeat(13));
+    file.extend(unhex("800010186a009004000d6d80a004100c3500"));
+    file
 }
 
 pub fn put_row(writer: &mut BitWriter, row: &Row, spare: i64) {

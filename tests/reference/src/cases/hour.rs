@@ -625,20 +625,42 @@ fn paths(random: &mut Random) -> File {
 
 /// An accepted hour with rows and transactions enough to spoil.
 fn faultless(random: &mut Random) -> Case {
+    let (participants, locations) = (2 + random.index(4), 2 + random.index(3));
+    let (rows, transactions) = (3 + random.index(6), 2 + random.index(4));
+    accepted(participants, locations, rows, transactions, random)
+}
+
+/// An accepted hour of a size.
+fn accepted(
+    participants: usize,
+    locations: usize,
+    rows: usize,
+    transactions: usize,
+    random: &mut Random,
+) -> Case {
+    let sizes = Sizes {
+        kw: random.pick(&[1_000, 200_000]),
+        congestion: 30_000,
+        loss: 500,
+    };
     loop {
-        let sizes = Sizes {
-            kw: random.pick(&[1_000, 200_000]),
-            congestion: 30_000,
-            loss: 500,
-        };
-        let (participants, locations) = (2 + random.index(4), 2 + random.index(3));
-        let (rows, transactions) = (3 + random.index(6), 2 + random.index(4));
         let file = noise(participants, locations, rows, transactions, &sizes, random);
         let case = Case::new(file);
         if settled(&case) == 0 {
             return case;
         }
     }
+}
+
+/// The file of an accepted hour of a size.
+pub fn accepted_file(
+    participants: usize,
+    locations: usize,
+    rows: usize,
+    transactions: usize,
+    random: &mut Random,
+) -> Vec<u8> {
+    accepted(participants, locations, rows, transactions, random).bytes()
 }
 
 fn settled(case: &Case) -> u32 {

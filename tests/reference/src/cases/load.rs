@@ -13,7 +13,7 @@ pub const HEADER: &str = "metered\tdistributor\tloads\timports\tgeneration\tarea
 const WHOLE: i64 = 1_000_000;
 
 #[derive(Clone)]
-struct Case {
+pub struct Case {
     metered: i64,
     distributor: i64,
     loads: Vec<i64>,
@@ -76,7 +76,8 @@ pub fn line(turn: usize, random: &mut Random) -> String {
     )
 }
 
-fn draw(turn: usize, random: &mut Random) -> Case {
+/// The case of a turn.
+pub fn draw(turn: usize, random: &mut Random) -> Case {
     if turn % 200 == 199 {
         return large(random);
     }
@@ -328,15 +329,28 @@ fn faultless(random: &mut Random) -> Case {
     sound(&shape, tranches, random)
 }
 
-fn large(random: &mut Random) -> Case {
-    let full = random.once_in(2);
-    let mut up_to = |most: usize| if full { most } else { 1 + random.index(most) };
+/// The largest assignment.
+pub fn largest(random: &mut Random) -> Case {
     let shape = Shape {
-        buses: up_to(64),
-        areas: up_to(16),
-        contracts: up_to(256),
-        imports: up_to(64),
-        generation: up_to(64),
+        buses: 64,
+        areas: 16,
+        contracts: 256,
+        imports: 64,
+        generation: 64,
+    };
+    sound(&shape, Tranches::All, random)
+}
+
+fn large(random: &mut Random) -> Case {
+    if random.once_in(2) {
+        return largest(random);
+    }
+    let shape = Shape {
+        buses: 1 + random.index(64),
+        areas: 1 + random.index(16),
+        contracts: 1 + random.index(256),
+        imports: 1 + random.index(64),
+        generation: 1 + random.index(64),
     };
     let tranches = random.pick(&[Tranches::None, Tranches::Few, Tranches::All]);
     sound(&shape, tranches, random)
