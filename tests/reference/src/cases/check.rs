@@ -27,7 +27,7 @@ pub fn draw(turn: usize, random: &mut Random) -> Vec<u8> {
 
 /// A sound file as it is, a byte short or long, or with one spare bit set.
 fn near(round: usize, random: &mut Random) -> Vec<u8> {
-    let mut file = hour::sound_file(random);
+    let mut file = hour::faultless(random).bytes();
     let change = round % 12;
     match change {
         0 => {}
@@ -47,7 +47,7 @@ fn near(round: usize, random: &mut Random) -> Vec<u8> {
 /// Any bytes of any length, or a row of them in a sound file.
 fn noise(random: &mut Random) -> Vec<u8> {
     if random.once_in(2) {
-        let mut file = hour::sound_file(random);
+        let mut file = hour::faultless(random).bytes();
         let bytes = random.bytes(ROW_BYTES);
         any_row(&mut file, random).copy_from_slice(&bytes);
         return file;

@@ -12,7 +12,7 @@ use crate::MOST_KW;
 pub const HEADER: &str = "file\tcongestion before\tloss before\tcredit before\tnet before\tnumber\tcongestion after\tloss after\tcredit after\tnet after";
 
 #[derive(Clone)]
-struct Case {
+pub struct Case {
     file: File,
     /// Bytes more than the file has, or less, at its end.
     excess: i64,
@@ -33,7 +33,8 @@ impl Case {
         }
     }
 
-    fn bytes(&self) -> Vec<u8> {
+    /// The file.
+    pub fn bytes(&self) -> Vec<u8> {
         let mut bytes = self.file.bytes();
         let length = bytes.len() as i64 + self.excess;
         bytes.resize(length.max(0) as usize, 0);
@@ -624,14 +625,14 @@ fn paths(random: &mut Random) -> File {
 }
 
 /// An accepted hour with rows and transactions enough to spoil.
-fn faultless(random: &mut Random) -> Case {
+pub fn faultless(random: &mut Random) -> Case {
     let (participants, locations) = (2 + random.index(4), 2 + random.index(3));
     let (rows, transactions) = (3 + random.index(6), 2 + random.index(4));
     accepted(participants, locations, rows, transactions, random)
 }
 
 /// An accepted hour of a size.
-fn accepted(
+pub fn accepted(
     participants: usize,
     locations: usize,
     rows: usize,
@@ -650,17 +651,6 @@ fn accepted(
             return case;
         }
     }
-}
-
-/// The file of an accepted hour of a size.
-pub fn accepted_file(
-    participants: usize,
-    locations: usize,
-    rows: usize,
-    transactions: usize,
-    random: &mut Random,
-) -> Vec<u8> {
-    accepted(participants, locations, rows, transactions, random).bytes()
 }
 
 fn settled(case: &Case) -> u32 {
@@ -842,11 +832,6 @@ fn spoilt(faults: &[&Fault], random: &mut Random) -> Case {
         fault.2(&mut case, random);
     }
     case
-}
-
-/// A file that the check accepts, with a few rows and transactions.
-pub fn sound_file(random: &mut Random) -> Vec<u8> {
-    faultless(random).bytes()
 }
 
 /// A file with the n-th of all pairs of faults that the check looks for.
