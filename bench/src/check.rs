@@ -57,7 +57,7 @@ pub fn compare() {
 /// Plain Rust.
 fn check(file: &[u8]) -> Result<(), u32> {
     let file = File::new(file)?;
-    file.prices(|_| ())?;
+    file.prices(|_, _| ())?;
     file.rows(|_| ())?;
     file.transactions(|_| ())
 }

@@ -1,10 +1,12 @@
 //! The exercise file in plain Rust, read once.
 
+/// Day-ahead, then each interval.
+pub const STAGES: usize = 13;
+
 const HEADER: usize = 5;
 const PRICE: usize = 3;
 const ROW: usize = 6;
-const STAGES: usize = 13;
-const MOST_PRICE: i64 = 5_000_000;
+const MOST_PRICE: i32 = 5_000_000;
 const MOST_KW: i64 = 20_000_000;
 
 /// The parts of a file.
@@ -33,7 +35,7 @@ impl File<'_> {
         if file.len() < HEADER {
             return Err(9);
         }
-        let header = word(&file[..HEADER]);
+        let header = word(&[0, file[0], file[1], file[2], file[3], file[4]]);
         let participants = 1 + (header >> 34) as usize;
         let locations = 1 + (header >> 28 & 63) as usize;
         let rows = (header >> 16 & 4_095) as usize;
@@ -59,14 +61,14 @@ impl File<'_> {
         })
     }
 
-    /// Hands on each price in its order.
-    pub fn prices(&self, mut each: impl FnMut(i64)) -> Result<(), u32> {
-        for three in self.prices.chunks_exact(PRICE) {
-            let price = (i32::from_be_bytes([three[0], three[1], three[2], 0]) >> 8).into();
+    /// Hands on each price with its place in the list.
+    pub fn prices(&self, mut each: impl FnMut(usize, i32)) -> Result<(), u32> {
+        for (i, three) in self.prices.chunks_exact(PRICE).enumerate() {
+            let price = i32::from_be_bytes([three[0], three[1], three[2], 0]) >> 8;
             if !(-MOST_PRICE..=MOST_PRICE).contains(&price) {
                 return Err(2);
             }
-            each(price);
+            each(i, price);
         }
         Ok(())
     }
@@ -134,9 +136,9 @@ impl File<'_> {
     }
 }
 
-/// Five or six bytes, the first the most significant.
-fn word(bytes: &[u8]) -> u64 {
-    bytes
-        .iter()
-        .fold(0, |word, &byte| word << 8 | u64::from(byte))
+/// Six bytes, the first the most significant.
+fn word(six: &[u8]) -> u64 {
+    let high = u32::from_be_bytes(six[..4].try_into().unwrap());
+    let low = u16::from_be_bytes(six[4..6].try_into().unwrap());
+    u64::from(high) << 16 | u64::from(low)
 }

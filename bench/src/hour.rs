@@ -1,7 +1,7 @@
 //! wz_settle_hour beside plain Rust.
 
-use crate::exercise::File;
-use crate::shares::{parts, write, PARTIES};
+use crate::exercise::{File, STAGES};
+use crate::shares::{split, PARTIES};
 use crate::timing::{self, Case};
 use reference::cases;
 use reference::random::Random;
@@ -111,13 +111,47 @@ pub fn compare() {
     timing::compare("hour: 2 x 2, 3 rows (document 01)", &[exercise]);
 }
 
-const LOCATIONS: usize = 64;
+/// What a kW costs, by stage and location, in congestion and in loss. It stays
+/// below 2^31, as a price stays below 2^23.
+struct Weights {
+    lists: [[i32; STAGES * 64]; 2],
+    locations: usize,
+}
 
-/// Day-ahead, then each interval.
-const STAGES: usize = 13;
+impl Weights {
+    /// In real time the weight is the price. A day-ahead kW also stands, with
+    /// the other sign, in each interval.
+    fn read(&mut self, file: &File) -> Result<(), u32> {
+        let locations = file.locations;
+        let [congestion, loss] = &mut self.lists;
+        let half = STAGES * locations;
+        file.prices(|i, price| {
+            if i < half {
+                congestion[i] = price;
+            } else {
+                loss[i - half] = price;
+            }
+        })?;
+        for list in [congestion, loss] {
+            let (day_ahead, real_time) = list[..half].split_at_mut(locations);
+            for weight in day_ahead.iter_mut() {
+                *weight *= 12;
+            }
+            for interval in real_time.chunks_exact(locations) {
+                for (weight, price) in day_ahead.iter_mut().zip(interval) {
+                    *weight -= price;
+                }
+            }
+        }
+        Ok(())
+    }
 
-/// What a kW costs, at a stage and a location, in congestion and in loss.
-type Weights = [[[i64; 2]; LOCATIONS]; STAGES];
+    fn at(&self, real_time: bool, interval: usize, location: usize) -> [i64; 2] {
+        let stage = if real_time { 1 + interval } else { 0 };
+        let i = stage * self.locations + location;
+        [self.lists[0][i].into(), self.lists[1][i].into()]
+    }
+}
 
 /// Plain Rust: one pass over the rows, each adding its kW times a weight.
 fn settle(file: &[u8], lists: [&mut [u8]; 4]) -> Result<(), u32> {
@@ -127,24 +161,25 @@ fn settle(file: &[u8], lists: [&mut [u8]; 4]) -> Result<(), u32> {
         return Err(1);
     }
 
-    let weights = weights(&file)?;
+    let mut weights = Weights {
+        lists: [[0; STAGES * 64]; 2],
+        locations: file.locations,
+    };
+    weights.read(&file)?;
     let mut charges = [[0; 2]; PARTIES];
     let mut shares = [0; PARTIES];
     file.rows(|row| {
-        let stage = if row.real_time { 1 + row.interval } else { 0 };
-        let [congestion, loss] = weights[stage][row.location];
+        let [congestion, loss] = weights.at(row.real_time, row.interval, row.location);
         let kw = if row.kind % 2 == 0 { row.kw } else { -row.kw };
         let charge = &mut charges[row.participant];
         charge[0] += kw * congestion;
         charge[1] += kw * loss;
-        if row.real_time && row.kind % 2 == 0 {
-            shares[row.participant] += row.kw as u64;
-        }
+        let shared = row.real_time && row.kind % 2 == 0;
+        shares[row.participant] += if shared { row.kw as u64 } else { 0 };
     })?;
     file.transactions(|row| {
-        let stage = if row.real_time { 1 + row.interval } else { 0 };
-        let source = weights[stage][row.location];
-        let sink = weights[stage][row.sink];
+        let source = weights.at(row.real_time, row.interval, row.location);
+        let sink = weights.at(row.real_time, row.interval, row.sink);
         let charge = &mut charges[row.participant];
         charge[0] += row.kw * (sink[0] - source[0]);
         charge[1] += row.kw * (sink[1] - source[1]);
@@ -156,7 +191,7 @@ fn settle(file: &[u8], lists: [&mut [u8]; 4]) -> Result<(), u32> {
         congestion[i] = cents(charge[0]);
         loss[i] = cents(charge[1]);
     }
-    let surplus: i64 = loss.iter().sum();
+    let surplus: i64 = loss[..participants].iter().sum();
     let shares = &shares[..participants];
     let total: u64 = shares.iter().sum();
     if surplus.abs() > 1_000_000_000 || shares.iter().any(|&share| share > 4_000_000_000) {
@@ -164,46 +199,23 @@ fn settle(file: &[u8], lists: [&mut [u8]; 4]) -> Result<(), u32> {
     }
     let mut credit = [0; PARTIES];
     if total > 0 {
-        let sign = surplus.signum();
-        credit = parts(surplus.unsigned_abs(), shares, total).map(|part| sign * part as i64);
+        let (size, sign) = (surplus.unsigned_abs(), surplus.signum());
+        split(size, shares.iter().copied(), total, |party, units, _| {
+            credit[party] += sign * units;
+        });
     } else if surplus != 0 {
         return Err(7);
     }
-    let mut net = [0; PARTIES];
+    let [to_congestion, to_loss, to_credit, to_net] = lists;
     for i in 0..participants {
-        net[i] = congestion[i] + loss[i] - credit[i];
-    }
-    for (list, cents) in lists.into_iter().zip([congestion, loss, credit, net]) {
-        write(list, &cents);
+        let net = congestion[i] + loss[i] - credit[i];
+        let eight = 8 * i..8 * i + 8;
+        to_congestion[eight.clone()].copy_from_slice(&congestion[i].to_le_bytes());
+        to_loss[eight.clone()].copy_from_slice(&loss[i].to_le_bytes());
+        to_credit[eight.clone()].copy_from_slice(&credit[i].to_le_bytes());
+        to_net[eight].copy_from_slice(&net.to_le_bytes());
     }
     Ok(())
-}
-
-/// In real time the weight is the price. A day-ahead kW also stands, with the
-/// other sign, in each interval.
-fn weights(file: &File) -> Result<Weights, u32> {
-    let mut weights = [[[0; 2]; LOCATIONS]; STAGES];
-    let (mut list, mut stage, mut location) = (0, 0, 0);
-    file.prices(|price| {
-        weights[stage][location][list] = price;
-        location += 1;
-        if location == file.locations {
-            location = 0;
-            stage += 1;
-        }
-        if stage == STAGES {
-            stage = 0;
-            list += 1;
-        }
-    })?;
-    let (day_ahead, real_time) = weights.split_at_mut(1);
-    for (location, weight) in day_ahead[0][..file.locations].iter_mut().enumerate() {
-        for (list, weight) in weight.iter_mut().enumerate() {
-            let intervals: i64 = real_time.iter().map(|stage| stage[location][list]).sum();
-            *weight = 12 * *weight - intervals;
-        }
-    }
-    Ok(weights)
 }
 
 /// Twelfths to cents, halves away from zero.

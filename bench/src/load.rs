@@ -1,6 +1,6 @@
 //! wz_assign_load beside plain Rust.
 
-use crate::shares::{number, parts, write};
+use crate::shares::{number, split};
 use crate::timing::{self, Case};
 use reference::cases;
 use reference::load::Given;
@@ -176,28 +176,35 @@ fn assign(given: &Given, out: &mut [u8]) -> Result<(), u32> {
         }
     }
 
+    let mut rest = loads.map(|load| load as i64);
     if given.metered == 1 {
         if !(0..=MOST_KW).contains(&metered) {
             return Err(6);
         }
-        if load != 0 {
-            loads = parts(metered as u64, &loads[..buses], load);
-        } else if metered != 0 {
+        if load == 0 && metered != 0 {
             return Err(7);
+        }
+        rest = [0; BUSES];
+        if load != 0 {
+            let shares = loads[..buses].iter().copied();
+            split(metered as u64, shares, load, |bus, kw, _| rest[bus] += kw);
         }
     }
     let mut kw = [0; PARTICIPANTS * BUSES];
-    let mut rest = loads.map(|load| load as i64);
     for contract in contracts {
         let supplier = number(&contract[..8]) as usize;
         let area = number(&contract[8..16]) as usize;
-        let area = &area_parts[area * buses..][..buses];
-        let parts = parts(number(&contract[16..]) as u64, area, WHOLE);
+        let shares = area_parts[area * buses..][..buses].iter().copied();
         let of_supplier = &mut kw[supplier * buses..][..buses];
-        for ((kw, rest), part) in of_supplier.iter_mut().zip(&mut rest).zip(parts) {
-            *kw += part as i64;
-            *rest -= part as i64;
-        }
+        split(
+            number(&contract[16..]) as u64,
+            shares,
+            WHOLE,
+            |bus, part, _| {
+                of_supplier[bus] += part;
+                rest[bus] -= part;
+            },
+        );
     }
     if rest[..buses].iter().any(|&rest| rest < 0) {
         return Err(8);
@@ -207,12 +214,14 @@ fn assign(given: &Given, out: &mut [u8]) -> Result<(), u32> {
             kw[distributor * buses + bus] += rest[bus];
             continue;
         }
-        let parts = parts(rest[bus] as u64, &tranches, won);
-        for (participant, part) in parts.into_iter().enumerate() {
-            kw[participant * buses + bus] += part as i64;
-        }
+        let shares = tranches.iter().copied();
+        split(rest[bus] as u64, shares, won, |participant, part, _| {
+            kw[participant * buses + bus] += part;
+        });
     }
-    write(out, &kw);
+    for (eight, kw) in out.chunks_exact_mut(8).zip(kw) {
+        eight.copy_from_slice(&kw.to_le_bytes());
+    }
     Ok(())
 }
 

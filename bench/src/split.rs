@@ -1,6 +1,6 @@
 //! wz_split beside plain Rust.
 
-use crate::shares::{number, parts, PARTIES};
+use crate::shares::{self, number, Step, PARTIES};
 use crate::timing::{self, Case};
 use reference::random::Random;
 use reference::{cases, numbers};
@@ -94,14 +94,13 @@ fn split(amount: i64, shares: &[u8], out: &mut [u8]) -> u32 {
     if size > 1_000_000_000 {
         return 2;
     }
-    let mut shares = [0; PARTIES];
+    let shares = eights.map(|eight| number(eight) as u64);
     let mut total = 0;
-    for (share, eight) in shares.iter_mut().zip(eights) {
-        *share = number(eight) as u64;
-        if *share > 4_000_000_000 {
+    for share in shares.clone() {
+        if share > 4_000_000_000 {
             return 2;
         }
-        total += *share;
+        total += share;
     }
     if total == 0 {
         if amount != 0 {
@@ -110,10 +109,11 @@ fn split(amount: i64, shares: &[u8], out: &mut [u8]) -> u32 {
         out.fill(0);
         return 0;
     }
-    let sign = if amount < 0 { -1 } else { 1 };
-    let parts = parts(size, &shares[..count], total);
-    for (eight, part) in out.chunks_exact_mut(8).zip(parts) {
-        eight.copy_from_slice(&(sign * part as i64).to_le_bytes());
-    }
+    shares::split(size, shares, total, |party, units, step| {
+        let part = &mut out[8 * party..8 * party + 8];
+        let before = if step == Step::First { 0 } else { number(part) };
+        let sum = before + amount.signum() * units;
+        part.copy_from_slice(&sum.to_le_bytes());
+    });
     0
 }
