@@ -15,7 +15,7 @@ pub fn number(eight: &[u8]) -> i64 {
 
 /// Splits a size over at most 64 shares that total more than 0. Gives first
 /// every party its units cut down, then some parties one more.
-#[inline(always)] // with what it gives to
+#[inline]
 pub fn split(
     size: u64,
     shares: impl ExactSizeIterator<Item = u64>,
