@@ -1,10 +1,17 @@
-//! Links libwunzelihle.a from the folder that ENGINE names, again whenever it
-//! changes.
+//! Links the archives from the folder that ENGINE names, again whenever one
+//! changes: libwunzelihle.a, and libprobe.a for the check.
 
 fn main() {
     let folder = std::env::var("ENGINE").expect("ENGINE is the folder of libwunzelihle.a");
     println!("cargo:rustc-link-search=native={folder}");
-    println!("cargo:rustc-link-lib=static=wunzelihle");
-    println!("cargo:rerun-if-changed={folder}/libwunzelihle.a");
     println!("cargo:rerun-if-env-changed=ENGINE");
+    link(&folder, "wunzelihle");
+    if std::env::var_os("CARGO_FEATURE_CHECK").is_some() {
+        link(&folder, "probe");
+    }
+}
+
+fn link(folder: &str, name: &str) {
+    println!("cargo:rustc-link-lib=static={name}");
+    println!("cargo:rerun-if-changed={folder}/lib{name}.a");
 }

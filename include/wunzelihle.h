@@ -100,6 +100,141 @@ uint32_t wz_split(int64_t amount,
                   const uint8_t *shares, size_t shares_len,
                   uint8_t *parts, size_t parts_len);
 
+/*
+ * wz_assign_load: assign one distributor's load, bus by bus, to those who
+ * supply it.
+ *
+ *   metered      1 where the distributor is metered, else 0
+ *   distributor  the participant that it is, 0 to 63
+ *   loads        a number for each bus: its State Estimator load in kW, 0 to
+ *                20,000,000; 1 to 64 buses, so loads_len is 8 to 512
+ *   imports      a number for each tie meter: its net import in kW,
+ *                -20,000,000 to 20,000,000; 0 to 64 meters
+ *   generation   a number for each generator: its kW, 0 to 20,000,000; 0 to 64
+ *                generators
+ *   areas        how many areas there are, 0 to 16
+ *   area_parts   area by area, a number for each bus: its part of the area in
+ *                millionths, 0 to 1,000,000, an area's totalling 1,000,000;
+ *                areas times buses numbers
+ *   contracts    three numbers for each contract: supplier (a participant, 0
+ *                to 63), area (counted from 0) and kW (0 to 20,000,000); 0 to
+ *                256 contracts, so contracts_len is 0 to 6,144 by 24
+ *   tranches     a number for each participant: tranches won, 0 to 10,000; 64
+ *                numbers, so tranches_len is 512
+ *   out          written: kW of each participant at each bus, participant by
+ *                participant: number p times buses plus b is participant p's
+ *                at bus b; 64 times buses numbers
+ *
+ * What a metered distributor has is the sum of its imports and generation,
+ * split over the buses by their loads; for another the loads stand as they
+ * are. Each contract is split over the buses by its area's parts, by itself,
+ * and its kW there go to the supplier. What then remains at a bus is split
+ * over the participants by tranches won; where there is no tranche at all it
+ * stays with the distributor, who may hold contracts and tranches like others.
+ * Every split is that of wz_split. So at each bus the kW of all participants
+ * add up to what the distributor has there.
+ *
+ *   Metered, loads 100, 200, 300, imports 500, -40, generation 200: the buses
+ *   have 110, 220, 330. A contract of 10 kW in an area of 500,000, 333,333,
+ *   166,667 takes 5, 3, 2 of it; of the rest 3 tranches and 1 tranche take
+ *   79, 163, 246 and 26, 54, 82.
+ *
+ * Refusals, in their order:
+ *
+ *   WZ_LENGTH        the length of a list is no multiple of eight; there are
+ *                    no buses or more than 64, more than 64 tie meters, more
+ *                    than 64 generators; areas is outside its range; there
+ *                    are more than 256 contracts, or one of less than three
+ *                    numbers; or area_parts, tranches or out is shorter or
+ *                    longer than said above
+ *   WZ_RANGE         metered is neither 0 nor 1
+ *   WZ_RANGE         a number is outside its range, of loads, imports,
+ *                    generation, area_parts, the kW of contracts or tranches
+ *   WZ_IDENTITY      distributor is no participant
+ *   WZ_IDENTITY      a contract's supplier is no participant, or its area is
+ *                    none of those given
+ *   WZ_AREA_PARTS    an area's parts don't total 1,000,000, whether a contract
+ *                    names it or not
+ *   WZ_METERED_LOAD  a metered distributor's imports and generation add up to
+ *                    less than 0 or more than 20,000,000
+ *   WZ_NO_SHARES     a metered distributor's imports and generation don't add
+ *                    up to 0 and its loads do
+ *   WZ_CONTRACTS     contracts have more kW at a bus than the distributor
+ */
+uint32_t wz_assign_load(int64_t metered, int64_t distributor,
+                        const uint8_t *loads, size_t loads_len,
+                        const uint8_t *imports, size_t imports_len,
+                        const uint8_t *generation, size_t generation_len,
+                        int64_t areas,
+                        const uint8_t *area_parts, size_t area_parts_len,
+                        const uint8_t *contracts, size_t contracts_len,
+                        const uint8_t *tranches, size_t tranches_len,
+                        uint8_t *out, size_t out_len);
+
+/*
+ * wz_settle_hour: settle one market hour from an exercise file.
+ *
+ *   file        the file as its own bytes: header, prices, rows and
+ *               transactions, packed as document 01 says; file_len is 83 to
+ *               18,821
+ *   congestion  written: each participant's congestion charge
+ *   loss        written: each participant's loss charge
+ *   credit      written: each participant's credit from the loss surplus
+ *   net         written: each participant's charges less its credit
+ *
+ * The four lists are in cents and have a number for each participant of the
+ * file, 1 to 64, so each length is 8 to 512. A charge below 0 is paid out.
+ *
+ * Day-ahead a participant pays, at each location, withdrawals less injections
+ * times the price. In each of the 12 real-time intervals it pays what it
+ * withdraws less what it injects beyond its day-ahead kW there, times the
+ * interval's price over 12; day-ahead kW stand in every interval, also where
+ * no real-time row does. A transaction costs its kW times the price at its
+ * sink less the price at its source; in real time only what differs from the
+ * participant's day-ahead kW of the same path counts, and a shortfall is paid
+ * back. Congestion and loss have their own prices. A participant's charge is
+ * added up exactly and rounded once, to the nearest cent, halves away from
+ * zero.
+ *
+ * The surplus is the sum of all loss charges. It is split, as wz_split does,
+ * over the participants by the kW of their real-time load and exports, added
+ * up over the rows. So credits and loss charges total the same cents.
+ *
+ *   Document 01's exercise, of 2 participants, 2 locations and 3 rows, gives
+ *   congestion 0, 0; loss 1000, 390; credit 927, 463; net 73, -73.
+ *
+ * Refusals, in their order:
+ *
+ *   WZ_FILE       the file has less than 5 bytes
+ *   WZ_FILE       a spare bit of the header is set
+ *   WZ_LENGTH     the header tells of more than 2,048 rows or 256 transactions
+ *   WZ_FILE       the file is shorter or longer than its header tells
+ *   WZ_LENGTH     congestion, loss, credit or net hasn't eight bytes for each
+ *                 participant
+ *   WZ_RANGE      a price is outside -5,000,000 to 5,000,000
+ *
+ *   then of each row in turn
+ *   WZ_KIND       kind, market and interval don't fit together
+ *   WZ_IDENTITY   its participant or location is none of the file's
+ *   WZ_RANGE      its kW are above 20,000,000
+ *   WZ_FILE       a spare bit is set
+ *
+ *   then of each transaction in turn
+ *   WZ_KIND       market and interval don't fit together
+ *   WZ_IDENTITY   its participant, source or sink is none of the file's
+ *   WZ_RANGE      its kW are above 20,000,000
+ *
+ *   WZ_SURPLUS    the surplus is below -1,000,000,000 or above 1,000,000,000
+ *                 cents, or a participant's real-time load and exports add up
+ *                 to more than 4,000,000,000 kW
+ *   WZ_NO_SHARES  the surplus isn't 0 and nobody has real-time load or exports
+ */
+uint32_t wz_settle_hour(const uint8_t *file, size_t file_len,
+                        uint8_t *congestion, size_t congestion_len,
+                        uint8_t *loss, size_t loss_len,
+                        uint8_t *credit, size_t credit_len,
+                        uint8_t *net, size_t net_len);
+
 #ifdef __cplusplus
 }
 #endif

@@ -6,13 +6,15 @@
 #include <stdlib.h>
 #include <string.h>
 
+#define PASSES 3
 #define GUARD 64
+#define LONGEST_RUN 1000000
 #define MOST_PRINTED 10
 
 static size_t line_number, cases, wrong;
 static const char *line_text; /* of the case at hand, NULL once it is printed */
 
-static void leave(const char *why)
+void leave(const char *why)
 {
     printf("line %zu can't be read: %s\n", line_number, why);
     printf("%zu cases, %zu wrong\n", cases, wrong);
@@ -78,21 +80,66 @@ static int digit(char c)
     return 0;
 }
 
-struct list list_of(const char *field)
+/* How often a byte stands: the count in braces behind it, else once. */
+static size_t run_of(const char **text)
+{
+    char *end;
+    uintmax_t run;
+
+    if (**text != '{')
+        return 1;
+    errno = 0;
+    run = strtoumax(*text + 1, &end, 10);
+    if (*end != '}' || errno || run == 0 || run > LONGEST_RUN)
+        leave("a count in braces is expected");
+    *text = end + 1;
+    return (size_t)run;
+}
+
+/* The bytes of a list, and how many they are. */
+static uint8_t *bytes_of(const char *field, size_t *len)
+{
+    uint8_t *bytes = space(NULL, 0);
+    size_t room = 0;
+
+    *len = 0;
+    while (*field) {
+        uint8_t byte = (uint8_t)(16 * digit(field[0]) + digit(field[1]));
+        size_t run;
+
+        field += 2;
+        run = run_of(&field);
+        if (*len + run > room) {
+            room = 2 * (*len + run);
+            bytes = space(bytes, room);
+        }
+        memset(bytes + *len, byte, run);
+        *len += run;
+    }
+    return bytes;
+}
+
+struct list input(const char *name, const char *field)
 {
     struct list list = {0};
-    size_t i;
 
-    if (strlen(field) % 2)
-        leave("a list has two digits a byte");
-    list.len = strlen(field) / 2;
-    list.bytes = space(NULL, list.len);
-    for (i = 0; i < list.len; i++)
-        list.bytes[i] = (uint8_t)(16 * digit(field[2 * i]) + digit(field[2 * i + 1]));
+    list.name = name;
+    list.before = list.after = bytes_of(field, &list.len);
     return list;
 }
 
-uint8_t *lend(struct list *list, int pass)
+struct list output(const char *name, const char *before, const char *after)
+{
+    struct list list = input(name, before);
+    size_t len;
+
+    list.after = bytes_of(after, &len);
+    if (len != list.len)
+        leave("a list is of another length after the call");
+    return list;
+}
+
+static void lend(struct list *list, int pass)
 {
     int last = pass == PASSES - 1;
     size_t before = last ? 0 : GUARD + (line_number + (size_t)pass) % 8;
@@ -100,16 +147,18 @@ uint8_t *lend(struct list *list, int pass)
     free(list->block);
     list->block_len = before + list->len + (last ? 0 : GUARD);
     list->block = space(NULL, list->block_len);
-    list->lent = list->block + before;
+    list->copy = list->block + before;
     list->guard = pass ? 0x5a : 0xff;
     memset(list->block, list->guard, list->block_len);
-    memcpy(list->lent, list->bytes, list->len);
-    return last && list->len == 0 ? NULL : list->lent;
+    memcpy(list->copy, list->before, list->len);
+    list->lent = last && list->len == 0 ? NULL : list->copy;
 }
 
-void release(struct list *list)
+static void release(struct list *list)
 {
-    free(list->bytes);
+    if (list->after != list->before)
+        free(list->after);
+    free(list->before);
     free(list->block);
 }
 
@@ -124,35 +173,55 @@ static int note(void)
     return 1;
 }
 
-int answers(uint32_t answer, int64_t number)
+int answers(const char *name, uint64_t answer, int64_t number)
 {
     if (answer == (uint64_t)number)
         return 1;
     if (note())
-        printf("    answers %" PRIu32 ", not %" PRId64 "\n", answer, number);
+        printf("    %s answers %" PRIu64 ", not %" PRId64 "\n", name, answer, number);
     return 0;
 }
 
-int holds(const char *name, const struct list *list, const struct list *after)
+/* Gives 1 where the list and its guards are as they must be after the call. */
+static int holds(const struct list *list)
 {
-    size_t before = (size_t)(list->lent - list->block);
+    size_t before = (size_t)(list->copy - list->block);
     size_t i;
 
-    if (after->len != list->len)
-        leave("a list is of another length after the call");
     for (i = 0; i < list->block_len; i++) {
         int outside = i < before || i >= before + list->len;
-        uint8_t byte = outside ? list->guard : after->bytes[i - before];
+        uint8_t byte = outside ? list->guard : list->after[i - before];
 
         if (list->block[i] == byte)
             continue;
         if (note())
-            printf("    %s (%zu bytes) has %02x at byte %td, not %02x%s\n", name, list->len,
-                   list->block[i], (ptrdiff_t)i - (ptrdiff_t)before, byte,
+            printf("    %s (%zu bytes) has %02x at byte %td, not %02x%s\n", list->name,
+                   list->len, list->block[i], (ptrdiff_t)i - (ptrdiff_t)before, byte,
                    outside ? ": that is outside" : "");
         return 0;
     }
     return 1;
+}
+
+/* Makes the call of a case in each pass, until something differs. */
+static int check(const struct test *test, char **field)
+{
+    struct list list[MOST_LISTS];
+    int right = 1;
+    int pass;
+    size_t i;
+
+    test->read_lists(field, list);
+    for (pass = 0; right && pass < PASSES; pass++) {
+        for (i = 0; i < test->lists; i++)
+            lend(&list[i], pass);
+        right = test->call(field, list);
+        for (i = 0; i < test->lists; i++)
+            right &= holds(&list[i]);
+    }
+    for (i = 0; i < test->lists; i++)
+        release(&list[i]);
+    return right;
 }
 
 /* Parts a line at its tabs. */
@@ -169,9 +238,9 @@ static void part(char *line, char **field, size_t fields)
     }
 }
 
-int run_cases(size_t fields, int (*check)(char **field))
+int run_cases(const struct test *test)
 {
-    char **field = space(NULL, fields * sizeof *field);
+    char **field = space(NULL, test->fields * sizeof *field);
     char *line;
 
     /* What was found is kept where a later call crashes. */
@@ -183,9 +252,9 @@ int run_cases(size_t fields, int (*check)(char **field))
             continue;
         text = space(NULL, strlen(line) + 1);
         line_text = strcpy(text, line);
-        part(line, field, fields);
+        part(line, field, test->fields);
         cases++;
-        if (!check(field))
+        if (!check(test, field))
             wrong++;
         free(text);
     }

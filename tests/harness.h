@@ -10,42 +10,53 @@
 
 /* A list of a case, to be lent to the call under test. */
 struct list {
-    uint8_t *bytes; /* what the case says it holds */
+    const char *name;
     size_t len;
-    uint8_t *block; /* guard bytes, the copy that is lent, guard bytes */
+    uint8_t *before; /* what it holds at the call */
+    uint8_t *after;  /* what it must hold then */
+    uint8_t *block;  /* guard bytes, the copy that is lent, guard bytes */
     size_t block_len;
-    uint8_t *lent;
+    uint8_t *copy;
+    uint8_t *lent; /* the pointer for the call */
     uint8_t guard;
 };
 
-/* The number or list of a field. They leave the program where there is none. */
+/* The two arguments that lend a list. */
+#define LENT(list) (list).lent, (list).len
+
+/* Ends the program, since the case at hand can't be read. */
+void leave(const char *why);
+
+/*
+ * The number of a field, a list that is only read, and a list that the call
+ * writes to. They leave where there is none.
+ */
 int64_t number_of(const char *field);
-struct list list_of(const char *field);
+struct list input(const char *name, const char *field);
+struct list output(const char *name, const char *before, const char *after);
+
+/* Gives 1 where the answer is as the case says, else prints it and gives 0. */
+int answers(const char *name, uint64_t answer, int64_t number);
+
+/* The test of a call. */
+struct test {
+    size_t fields; /* of a case */
+    size_t lists;  /* that are lent, at most MOST_LISTS */
+    void (*read_lists)(char **field, struct list *list);
+    /* Makes the call and gives what `answers` does. */
+    int (*call)(char **field, const struct list *list);
+};
+#define MOST_LISTS 8
 
 /*
- * Copies the list between guard bytes and gives the pointer to lend. A case is
- * tried in three passes. The first two are alike but for the guard bytes, which
- * the call must not see, and for the alignment. The third has no guard bytes,
- * so that a memory checker sees the ends of each list, and NULL for an empty
- * list.
+ * Reads cases from standard input and tries each in three passes. The first
+ * two are alike but for the guard bytes around each list, which the call must
+ * not see, and for the alignment. The third has no guard bytes, so that a
+ * memory checker sees the ends of each list, and NULL for an empty list. After
+ * each call every list with its guards must hold what the case says. Prints
+ * the cases that are wrong (the first ten) and then the count. Gives the exit
+ * status: 0 where there are cases, each can be read and none is wrong.
  */
-#define PASSES 3
-uint8_t *lend(struct list *list, int pass);
-
-/*
- * After a call: give 1 where the answer, or the list that was lent with its
- * guards, is as the case says; else print what differs and give 0.
- */
-int answers(uint32_t answer, int64_t number);
-int holds(const char *name, const struct list *list, const struct list *after);
-
-void release(struct list *list);
-
-/*
- * Reads cases with so many fields from standard input, runs `check` on each,
- * prints those that are wrong (the first ten) and then the count. Gives the
- * exit status: 0 where there are cases, each can be read and none is wrong.
- */
-int run_cases(size_t fields, int (*check)(char **field));
+int run_cases(const struct test *test);
 
 #endif

@@ -5,31 +5,22 @@
 #include "harness.h"
 #include "wunzelihle.h"
 
-static int check(char **field)
+static void read_lists(char **field, struct list *list)
 {
-    int64_t amount = number_of(field[0]);
-    struct list shares = list_of(field[1]);
-    struct list parts = list_of(field[2]);
-    int64_t number = number_of(field[3]);
-    struct list after = list_of(field[4]);
-    int right = 1;
-    int pass;
+    list[0] = input("shares", field[1]);
+    list[1] = output("parts", field[2], field[4]);
+}
 
-    for (pass = 0; right && pass < PASSES; pass++) {
-        const uint8_t *lent_shares = lend(&shares, pass);
-        uint8_t *lent_parts = lend(&parts, pass);
-        uint32_t answer = wz_split(amount, lent_shares, shares.len, lent_parts, parts.len);
+static int call(char **field, const struct list *list)
+{
+    uint32_t answer = wz_split(number_of(field[0]), LENT(list[0]), LENT(list[1]));
 
-        right = answers(answer, number) & holds("shares", &shares, &shares) &
-                holds("parts", &parts, &after);
-    }
-    release(&shares);
-    release(&parts);
-    release(&after);
-    return right;
+    return answers("wz_split", answer, number_of(field[3]));
 }
 
 int main(void)
 {
-    return run_cases(5, check);
+    static const struct test split = {5, 2, read_lists, call};
+
+    return run_cases(&split);
 }

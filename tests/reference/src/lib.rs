@@ -3,11 +3,29 @@
 //!
 //! Nothing here is taken from the engine: the two share the document alone.
 
+pub mod exercise;
+pub mod hour;
+pub mod load;
 pub mod numbers;
 pub mod random;
 pub mod split;
 
-/// What is asked of each call, one module a call.
+#[cfg(test)]
+mod vectors;
+
+/// The most kW of anything.
+pub const MOST_KW: i64 = 20_000_000;
+
+/// What is asked of each call, one module a call. Each has `HEADER`, which
+/// names the fields of a case, and `line`, the case whose turn it is with what
+/// the call must answer and leave behind.
 pub mod cases {
+    pub mod check;
+    pub mod hour;
+    pub mod load;
+    pub mod row;
     pub mod split;
+
+    pub mod faults;
+    pub mod file;
 }

@@ -1,10 +1,21 @@
 //! `reference CALL COUNT SEED` prints cases for a call, one a line, with the
 //! answer and the output that document 01 asks for.
 
-use reference::cases;
+use reference::cases::{check, hour, load, row, split};
 use reference::random::Random;
 use std::io::{self, BufWriter, Write};
 use std::process::ExitCode;
+
+/// The case of a turn.
+type Line = fn(usize, &mut Random) -> String;
+
+const CALLS: [(&str, &str, Line); 5] = [
+    ("split", split::HEADER, split::line),
+    ("load", load::HEADER, load::line),
+    ("row", row::HEADER, row::line),
+    ("check", check::HEADER, check::line),
+    ("hour", hour::HEADER, hour::line),
+];
 
 fn main() -> ExitCode {
     let words: Vec<String> = std::env::args().skip(1).collect();
@@ -16,13 +27,11 @@ fn main() -> ExitCode {
         (Ok(count), Ok(seed)) => (count, seed),
         _ => return usage(),
     };
-    let mut random = Random::new(seed);
-    let mut out = BufWriter::new(io::stdout().lock());
-    let written = match call.as_str() {
-        "split" => cases::split::write(&mut out, count, &mut random),
-        _ => return usage(),
+    let (header, line) = match CALLS.iter().find(|(name, ..)| name == call) {
+        Some(&(_, header, line)) => (header, line),
+        None => return usage(),
     };
-    match written.and_then(|()| out.flush()) {
+    match print(header, line, count, seed) {
         Ok(()) => ExitCode::SUCCESS,
         Err(error) => {
             eprintln!("reference: {error}");
@@ -31,7 +40,18 @@ fn main() -> ExitCode {
     }
 }
 
+fn print(header: &str, line: Line, count: usize, seed: u64) -> io::Result<()> {
+    let mut random = Random::new(seed);
+    let mut out = BufWriter::new(io::stdout().lock());
+    writeln!(out, "# {header}")?;
+    for turn in 0..count {
+        writeln!(out, "{}", line(turn, &mut random))?;
+    }
+    out.flush()
+}
+
 fn usage() -> ExitCode {
-    eprintln!("usage: reference split COUNT SEED");
+    let names: Vec<&str> = CALLS.iter().map(|(name, ..)| *name).collect();
+    eprintln!("usage: reference {} COUNT SEED", names.join("|"));
     ExitCode::from(2)
 }

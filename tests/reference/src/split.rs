@@ -65,6 +65,7 @@ mod tests {
     use super::*;
     use crate::cases;
     use crate::random::Random;
+    use crate::vectors;
 
     /// The answer and, where it is 0, the parts. A refusal must leave the
     /// output as it was.
@@ -135,6 +136,16 @@ mod tests {
             let mut written = vec![0xa5; parts];
             assert_eq!(split(MOST_AMOUNT + 1, &vec![0xff; shares], &mut written), 1);
             assert_eq!(written, vec![0xa5; parts]);
+        }
+    }
+
+    #[test]
+    fn vectors() {
+        for (line, f) in vectors::read("split") {
+            let mut parts = numbers::unhex(&f[2]);
+            let number = split(f[0].parse().unwrap(), &numbers::unhex(&f[1]), &mut parts);
+            assert_eq!(number.to_string(), f[3], "line {line}");
+            assert_eq!(parts, numbers::unhex(&f[4]), "line {line}");
         }
     }
 

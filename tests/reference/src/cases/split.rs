@@ -3,7 +3,6 @@
 use crate::numbers;
 use crate::random::Random;
 use crate::split::{split, MOST_AMOUNT, MOST_PARTIES, MOST_SHARE};
-use std::io::{self, Write};
 
 pub struct Case {
     pub amount: i64,
@@ -12,24 +11,21 @@ pub struct Case {
     pub parts: Vec<u8>,
 }
 
-/// Writes `count` cases with what the call must do.
-pub fn write(out: &mut impl Write, count: usize, random: &mut Random) -> io::Result<()> {
-    writeln!(out, "# amount\tshares\tparts before\tnumber\tparts after")?;
-    for turn in 0..count {
-        let case = case(turn, random);
-        let mut after = case.parts.clone();
-        let number = split(case.amount, &case.shares, &mut after);
-        writeln!(
-            out,
-            "{}\t{}\t{}\t{}\t{}",
-            case.amount,
-            numbers::hex(&case.shares),
-            numbers::hex(&case.parts),
-            number,
-            numbers::hex(&after)
-        )?;
-    }
-    Ok(())
+pub const HEADER: &str = "amount\tshares\tparts before\tnumber\tparts after";
+
+/// The case of a turn, as a line.
+pub fn line(turn: usize, random: &mut Random) -> String {
+    let case = case(turn, random);
+    let mut after = case.parts.clone();
+    let number = split(case.amount, &case.shares, &mut after);
+    format!(
+        "{}\t{}\t{}\t{}\t{}",
+        case.amount,
+        numbers::hex(&case.shares),
+        numbers::hex(&case.parts),
+        number,
+        numbers::hex(&after)
+    )
 }
 
 /// A case of the family whose turn it is.

@@ -1,0 +1,144 @@
+//! The exercise file in plain Rust, read once.
+
+/// Day-ahead, then each interval.
+pub const STAGES: usize = 13;
+
+const HEADER: usize = 5;
+const PRICE: usize = 3;
+const ROW: usize = 6;
+const MOST_PRICE: i32 = 5_000_000;
+const MOST_KW: i64 = 20_000_000;
+
+/// The parts of a file.
+pub struct File<'a> {
+    pub participants: usize,
+    pub locations: usize,
+    prices: &'a [u8],
+    rows: &'a [u8],
+    transactions: &'a [u8],
+}
+
+/// A row, or a transaction with its source as the location.
+pub struct Row {
+    pub real_time: bool,
+    pub kind: usize,
+    pub interval: usize,
+    pub participant: usize,
+    pub location: usize,
+    pub sink: usize,
+    pub kw: i64,
+}
+
+impl File<'_> {
+    /// Parts a file whose length is as its header tells.
+    pub fn new(file: &[u8]) -> Result<File<'_>, u32> {
+        if file.len() < HEADER {
+            return Err(9);
+        }
+        let header = word(&[0, file[0], file[1], file[2], file[3], file[4]]);
+        let participants = 1 + (header >> 34) as usize;
+        let locations = 1 + (header >> 28 & 63) as usize;
+        let rows = (header >> 16 & 4_095) as usize;
+        let transactions = (header >> 6 & 1_023) as usize;
+        if header & 63 != 0 {
+            return Err(9);
+        }
+        if rows > 2_048 || transactions > 256 {
+            return Err(1);
+        }
+        let prices = 2 * STAGES * PRICE * locations;
+        if file.len() != HEADER + prices + ROW * (rows + transactions) {
+            return Err(9);
+        }
+        let (prices, rest) = file[HEADER..].split_at(prices);
+        let (rows, transactions) = rest.split_at(ROW * rows);
+        Ok(File {
+            participants,
+            locations,
+            prices,
+            rows,
+            transactions,
+        })
+    }
+
+    /// Hands on each price with its place in the list.
+    pub fn prices(&self, mut each: impl FnMut(usize, i32)) -> Result<(), u32> {
+        for (i, three) in self.prices.chunks_exact(PRICE).enumerate() {
+            let price = i32::from_be_bytes([three[0], three[1], three[2], 0]) >> 8;
+            if !(-MOST_PRICE..=MOST_PRICE).contains(&price) {
+                return Err(2);
+            }
+            each(i, price);
+        }
+        Ok(())
+    }
+
+    /// Hands on each row in its turn.
+    pub fn rows(&self, mut each: impl FnMut(Row)) -> Result<(), u32> {
+        for six in self.rows.chunks_exact(ROW) {
+            let word = word(six);
+            let location = (word >> 28 & 63) as usize;
+            let row = Row {
+                real_time: word >> 47 == 1,
+                kind: (word >> 44 & 7) as usize,
+                interval: (word >> 40 & 15) as usize,
+                participant: (word >> 34 & 63) as usize,
+                location,
+                sink: location,
+                kw: (word >> 3 & 0x1ff_ffff) as i64,
+            };
+            if row.kind > if row.real_time { 3 } else { 5 } {
+                return Err(4);
+            }
+            self.test(&row)?;
+            if word & 7 != 0 {
+                return Err(9);
+            }
+            each(row);
+        }
+        Ok(())
+    }
+
+    /// Hands on each transaction in its turn.
+    pub fn transactions(&self, mut each: impl FnMut(Row)) -> Result<(), u32> {
+        for six in self.transactions.chunks_exact(ROW) {
+            let word = word(six);
+            let transaction = Row {
+                real_time: word >> 47 == 1,
+                kind: 0,
+                interval: (word >> 43 & 15) as usize,
+                participant: (word >> 37 & 63) as usize,
+                location: (word >> 31 & 63) as usize,
+                sink: (word >> 25 & 63) as usize,
+                kw: (word & 0x1ff_ffff) as i64,
+            };
+            self.test(&transaction)?;
+            each(transaction);
+        }
+        Ok(())
+    }
+
+    /// What rows and transactions have in common.
+    fn test(&self, row: &Row) -> Result<(), u32> {
+        if row.interval > if row.real_time { 11 } else { 0 } {
+            return Err(4);
+        }
+        if row.participant >= self.participants
+            || row.location >= self.locations
+            || row.sink >= self.locations
+        {
+            return Err(3);
+        }
+        if row.kw > MOST_KW {
+            return Err(2);
+        }
+        Ok(())
+    }
+}
+
+/// Six bytes, the first the most significant.
+fn word(six: &[u8]) -> u64 {
+    let high = u32::from_be_bytes(six[..4].try_into().unwrap());
+    let low = u16::from_be_bytes(six[4..6].try_into().unwrap());
+    u64::from(high) << 16 | u64::from(low)
+}

@@ -1,0 +1,224 @@
+//! wz_settle_hour beside plain Rust.
+
+use crate::exercise::{File, STAGES};
+use crate::shares::{split, PARTIES};
+use crate::timing::{self, Case};
+use reference::cases;
+use reference::random::Random;
+
+extern "C" {
+    fn wz_settle_hour(
+        file: *const u8,
+        file_len: usize,
+        congestion: *mut u8,
+        congestion_len: usize,
+        loss: *mut u8,
+        loss_len: usize,
+        credit: *mut u8,
+        credit_len: usize,
+        net: *mut u8,
+        net_len: usize,
+    ) -> u32;
+}
+
+struct Hour {
+    file: Vec<u8>,
+    /// The lengths of the output lists.
+    lens: [usize; 4],
+}
+
+impl Hour {
+    fn lists<'a>(&self, out: &'a mut [u8]) -> [&'a mut [u8]; 4] {
+        let (congestion, out) = out.split_at_mut(self.lens[0]);
+        let (loss, out) = out.split_at_mut(self.lens[1]);
+        let (credit, net) = out.split_at_mut(self.lens[2]);
+        [congestion, loss, credit, net]
+    }
+}
+
+impl Case for Hour {
+    fn out_len(&self) -> usize {
+        self.lens.iter().sum()
+    }
+
+    fn engine(&self, out: &mut [u8]) -> u32 {
+        let [congestion, loss, credit, net] = self.lists(out);
+        // Every list is lent with its own length.
+        unsafe {
+            wz_settle_hour(
+                self.file.as_ptr(),
+                self.file.len(),
+                congestion.as_mut_ptr(),
+                congestion.len(),
+                loss.as_mut_ptr(),
+                loss.len(),
+                credit.as_mut_ptr(),
+                credit.len(),
+                net.as_mut_ptr(),
+                net.len(),
+            )
+        }
+    }
+
+    fn plain(&self, out: &mut [u8]) -> u32 {
+        match settle(&self.file, self.lists(out)) {
+            Ok(()) => 0,
+            Err(number) => number,
+        }
+    }
+
+    fn reference(&self, out: &mut [u8]) -> u32 {
+        let lists = self.lists(out);
+        let mut after = [0, 1, 2, 3].map(|list: usize| lists[list].to_vec());
+        let number = reference::hour::settle_hour(&self.file, &mut after);
+        for (list, after) in lists.into_iter().zip(after) {
+            list.copy_from_slice(&after);
+        }
+        number
+    }
+
+    fn draw(turn: usize, random: &mut Random) -> Hour {
+        let (file, lens) = cases::hour::draw(turn, random);
+        Hour { file, lens }
+    }
+}
+
+pub fn compare() {
+    timing::try_plain::<Hour>();
+    let sizes = [
+        (
+            "hour: 64 x 64, 2,048 rows, 256 transactions",
+            16,
+            64,
+            2_048,
+            256,
+        ),
+        ("hour: 16 x 16, 256 rows", 64, 16, 256, 0),
+    ];
+    for (name, count, size, rows, transactions) in sizes {
+        let mut random = Random::new(1);
+        let mut case = || Hour {
+            file: cases::hour::accepted(size, size, rows, transactions, &mut random).bytes(),
+            lens: [8 * size; 4],
+        };
+        let cases: Vec<Hour> = (0..count).map(|_| case()).collect();
+        timing::compare(name, &cases);
+    }
+    let exercise = Hour {
+        file: cases::file::document_01(),
+        lens: [16; 4],
+    };
+    timing::compare("hour: 2 x 2, 3 rows (document 01)", &[exercise]);
+}
+
+/// What a kW costs, by stage and location, in congestion and in loss. It stays
+/// below 2^31, as a price stays below 2^23.
+struct Weights {
+    lists: [[i32; STAGES * 64]; 2],
+    locations: usize,
+}
+
+impl Weights {
+    /// In real time the weight is the price. A day-ahead kW also stands, with
+    /// the other sign, in each interval.
+    fn read(&mut self, file: &File) -> Result<(), u32> {
+        let locations = file.locations;
+        let [congestion, loss] = &mut self.lists;
+        let half = STAGES * locations;
+        file.prices(|i, price| {
+            if i < half {
+                congestion[i] = price;
+            } else {
+                loss[i - half] = price;
+            }
+        })?;
+        for list in [congestion, loss] {
+            let (day_ahead, real_time) = list[..half].split_at_mut(locations);
+            for weight in day_ahead.iter_mut() {
+                *weight *= 12;
+            }
+            for interval in real_time.chunks_exact(locations) {
+                for (weight, price) in day_ahead.iter_mut().zip(interval) {
+                    *weight -= price;
+                }
+            }
+        }
+        Ok(())
+    }
+
+    fn at(&self, real_time: bool, interval: usize, location: usize) -> [i64; 2] {
+        let stage = if real_time { 1 + interval } else { 0 };
+        let i = stage * self.locations + location;
+        [self.lists[0][i].into(), self.lists[1][i].into()]
+    }
+}
+
+/// Plain Rust: one pass over the rows, each adding its kW times a weight.
+fn settle(file: &[u8], lists: [&mut [u8]; 4]) -> Result<(), u32> {
+    let file = File::new(file)?;
+    let participants = file.participants;
+    if lists.iter().any(|list| list.len() != 8 * participants) {
+        return Err(1);
+    }
+
+    let mut weights = Weights {
+        lists: [[0; STAGES * 64]; 2],
+        locations: file.locations,
+    };
+    weights.read(&file)?;
+    let mut charges = [[0; 2]; PARTIES];
+    let mut shares = [0; PARTIES];
+    file.rows(|row| {
+        let [congestion, loss] = weights.at(row.real_time, row.interval, row.location);
+        let kw = if row.kind % 2 == 0 { row.kw } else { -row.kw };
+        let charge = &mut charges[row.participant];
+        charge[0] += kw * congestion;
+        charge[1] += kw * loss;
+        let shared = row.real_time && row.kind % 2 == 0;
+        shares[row.participant] += if shared { row.kw as u64 } else { 0 };
+    })?;
+    file.transactions(|row| {
+        let source = weights.at(row.real_time, row.interval, row.location);
+        let sink = weights.at(row.real_time, row.interval, row.sink);
+        let charge = &mut charges[row.participant];
+        charge[0] += row.kw * (sink[0] - source[0]);
+        charge[1] += row.kw * (sink[1] - source[1]);
+    })?;
+
+    let mut congestion = [0; PARTIES];
+    let mut loss = [0; PARTIES];
+    for (i, charge) in charges[..participants].iter().enumerate() {
+        congestion[i] = cents(charge[0]);
+        loss[i] = cents(charge[1]);
+    }
+    let surplus: i64 = loss[..participants].iter().sum();
+    let shares = &shares[..participants];
+    let total: u64 = shares.iter().sum();
+    if surplus.abs() > 1_000_000_000 || shares.iter().any(|&share| share > 4_000_000_000) {
+        return Err(10);
+    }
+    let mut credit = [0; PARTIES];
+    if total > 0 {
+        let (size, sign) = (surplus.unsigned_abs(), surplus.signum());
+        split(size, shares.iter().copied(), total, |party, units, _| {
+            credit[party] += sign * units;
+        });
+    } else if surplus != 0 {
+        return Err(7);
+    }
+    let [to_congestion, to_loss, to_credit, to_net] = lists;
+    for i in 0..participants {
+        let net = congestion[i] + loss[i] - credit[i];
+        let eight = 8 * i..8 * i + 8;
+        to_congestion[eight.clone()].copy_from_slice(&congestion[i].to_le_bytes());
+        to_loss[eight.clone()].copy_from_slice(&loss[i].to_le_bytes());
+        to_credit[eight.clone()].copy_from_slice(&credit[i].to_le_bytes());
+        to_net[eight].copy_from_slice(&net.to_le_bytes());
+    }
+    Ok(())
+}
+
+/// Twelfths to cents, halves away from zero.
+fn cents(twelfths: i64) -> i64 {
+    (twelfths + 60_000 * twelfths.signum()) / 120_000
+}

@@ -1,0 +1,32 @@
+/*
+ * What the tests see of the engine beneath its C interface: decoding one row,
+ * the check of a file and the reader of its rows. These are no calls of the
+ * product; they stand in an archive of their own, libprobe.a. Lists and answers
+ * are those of wunzelihle.h.
+ */
+#ifndef PROBE_H
+#define PROBE_H
+
+#include <stddef.h>
+#include <stdint.h>
+
+/*
+ * Decodes one row, given the counts of participants and locations. `fields`
+ * takes six numbers: market, kind, interval, participant, location, kW. It is
+ * written only where the answer is 0.
+ */
+uint32_t probe_row(int64_t participants, int64_t locations,
+                   const uint8_t *row, size_t row_len,
+                   uint8_t *fields, size_t fields_len);
+
+/* 0 for a file that is accepted up to its last transaction, or its refusal. */
+uint32_t probe_check(const uint8_t *file, size_t file_len);
+
+/*
+ * Where the stretch of rows begins in the file, 0 for an empty one, and how
+ * many bytes it has.
+ */
+uint64_t probe_rows_start(const uint8_t *file, size_t file_len);
+uint64_t probe_rows_length(const uint8_t *file, size_t file_len);
+
+#endif

@@ -1,0 +1,161 @@
+//! Builds exercise files, sound or damaged.
+
+use crate::exercise::{Row, Transaction, INTERVALS};
+use crate::numbers::unhex;
+
+pub struct BitWriter {
+    pub bytes: Vec<u8>,
+    bits: usize,
+}
+
+impl BitWriter {
+    pub fn new() -> Self {
+        BitWriter {
+            bytes: Vec::new(),
+            bits: 0,
+        }
+    }
+
+    /// Appends a number's lowest bits, the most significant of them first.
+    pub fn put(&mut self, bits: usize, number: i64) {
+        for shift in (0..bits).rev() {
+            if self.bits % 8 == 0 {
+                self.bytes.push(0);
+            }
+            let bit = (number >> shift & 1) as u8;
+            *self.bytes.last_mut().unwrap() |= bit << (7 - self.bits % 8);
+            self.bits += 1;
+        }
+    }
+}
+
+impl Default for BitWriter {
+    fn default() -> Self {
+        Self::new()
+    }
+}
+
+#[derive(Clone)]
+pub struct File {
+    pub participants: usize,
+    pub locations: usize,
+    pub spare: i64,
+    /// The counts that the header tells, where these aren't the true ones.
+    pub told_rows: Option<i64>,
+    pub told_transactions: Option<i64>,
+    /// Prices as they stand in the file: stretch 0 day-ahead, 1 + k interval k.
+    pub congestion: Vec<i64>,
+    pub loss: Vec<i64>,
+    pub rows: Vec<Row>,
+    /// Spare bits of some rows, by the row's place.
+    pub row_spares: Vec<(usize, i64)>,
+    pub transactions: Vec<Transaction>,
+}
+
+impl File {
+    /// An hour with all prices 0, no rows and no transactions.
+    pub fn new(participants: usize, locations: usize) -> Self {
+        File {
+            participants,
+            locations,
+            spare: 0,
+            told_rows: None,
+            told_transactions: None,
+            congestion: vec![0; (1 + INTERVALS) * locations],
+            loss: vec![0; (1 + INTERVALS) * locations],
+            rows: Vec::new(),
+            row_spares: Vec::new(),
+            transactions: Vec::new(),
+        }
+    }
+
+    pub fn row(
+        &mut self,
+        market: usize,
+        kind: usize,
+        interval: usize,
+        participant: usize,
+        location: usize,
+        kw: i64,
+    ) {
+        self.rows.push(Row {
+            market,
+            kind,
+            interval,
+            participant,
+            location,
+            kw,
+        });
+    }
+
+    pub fn transaction(
+        &mut self,
+        market: usize,
+        interval: usize,
+        participant: usize,
+        source: usize,
+        sink: usize,
+        kw: i64,
+    ) {
+        self.transactions.push(Transaction {
+            market,
+            interval,
+            participant,
+            source,
+            sink,
+            kw,
+        });
+    }
+
+    pub fn bytes(&self) -> Vec<u8> {
+        let mut writer = BitWriter::new();
+        let rows = self.told_rows.unwrap_or(self.rows.len() as i64);
+        let transactions = self
+            .told_transactions
+            .unwrap_or(self.transactions.len() as i64);
+        writer.put(6, self.participants as i64 - 1);
+        writer.put(6, self.locations as i64 - 1);
+        writer.put(12, rows);
+        writer.put(10, transactions);
+        writer.put(6, self.spare);
+        for &price in self.congestion.iter().chain(&self.loss) {
+            writer.put(24, price);
+        }
+        for (at, row) in self.rows.iter().enumerate() {
+            let spare = self.row_spares.iter().find(|s| s.0 == at);
+            put_row(&mut writer, row, spare.map_or(0, |s| s.1));
+        }
+        for transaction in &self.transactions {
+            put_transaction(&mut writer, transaction);
+        }
+        writer.bytes
+    }
+}
+
+/// The exercise of document 01: two participants, two locations, three rows.
+pub fn document_01() -> Vec<u8> {
+    let mut file = unhex("0410030000");
+    file.extend([0; 78]);
+    file.extend(unhex("000078000258").repeat(13));
+    file.extend(unhex("800010186a009004000d6d80a004100c3500"));
+    file
+}
+
+pub fn put_row(writer: &mut BitWriter, row: &Row, spare: i64) {
+    writer.put(1, row.market as i64);
+    writer.put(3, row.kind as i64);
+    writer.put(4, row.interval as i64);
+    writer.put(6, row.participant as i64);
+    writer.put(6, row.location as i64);
+    writer.put(25, row.kw);
+    writer.put(3, spare);
+}
+
+fn put_transaction(writer: &mut BitWriter, transaction: &Transaction) {
+    writer.put(1, transaction.market as i64);
+    writer.put(4, transaction.interval as i64);
+    writer.put(6, transaction.participant as i64);
+    writer.put(6, transaction.source as i64);
+    writer.put(6, transaction.sink as i64);
+    writer.put(25, transaction.kw);
+}

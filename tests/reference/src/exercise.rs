@@ -1,0 +1,324 @@
+//! The exercise file: header, prices, rows and transactions, packed with the
+//! most significant bit first.
+
+use crate::MOST_KW;
+
+pub const INTERVALS: usize = 12;
+pub const HEADER_BYTES: usize = 5;
+pub const PRICE_BYTES: usize = 3;
+pub const ROW_BYTES: usize = 6;
+pub const TRANSACTION_BYTES: usize = 6;
+
+const MOST_ROWS: usize = 2_048;
+const MOST_TRANSACTIONS: usize = 256;
+pub const MOST_PRICE: i64 = 5_000_000;
+
+pub const DAY_AHEAD: usize = 0;
+pub const REAL_TIME: usize = 1;
+
+pub const LOAD: usize = 0;
+pub const GENERATION: usize = 1;
+pub const EXPORT: usize = 2;
+pub const IMPORT: usize = 3;
+pub const DECREMENT: usize = 4;
+pub const INCREMENT: usize = 5;
+
+#[derive(Clone, Debug, PartialEq)]
+pub struct Row {
+    pub market: usize,
+    pub kind: usize,
+    pub interval: usize,
+    pub participant: usize,
+    pub location: usize,
+    pub kw: i64,
+}
+
+#[derive(Clone, Debug, PartialEq)]
+pub struct Transaction {
+    pub market: usize,
+    pub interval: usize,
+    pub participant: usize,
+    pub source: usize,
+    pub sink: usize,
+    pub kw: i64,
+}
+
+/// Prices in mills per MWh by location, in real time by interval and location.
+#[derive(Clone, Debug, PartialEq)]
+pub struct Prices {
+    pub day_ahead: Vec<i64>,
+    pub real_time: Vec<Vec<i64>>,
+}
+
+#[derive(Clone, Debug, PartialEq)]
+pub struct Header {
+    pub participants: usize,
+    pub locations: usize,
+    pub rows: usize,
+    pub transactions: usize,
+}
+
+impl Header {
+    pub fn rows_start(&self) -> usize {
+        HEADER_BYTES + 2 * (1 + INTERVALS) * self.locations * PRICE_BYTES
+    }
+
+    pub fn transactions_start(&self) -> usize {
+        self.rows_start() + self.rows * ROW_BYTES
+    }
+
+    pub fn file_length(&self) -> usize {
+        self.transactions_start() + self.transactions * TRANSACTION_BYTES
+    }
+}
+
+#[derive(Clone, Debug, PartialEq)]
+pub struct Hour {
+    pub participants: usize,
+    pub locations: usize,
+    pub congestion: Prices,
+    pub loss: Prices,
+    pub rows: Vec<Row>,
+    pub transactions: Vec<Transaction>,
+}
+
+struct BitReader<'a> {
+    bytes: &'a [u8],
+    at: usize,
+}
+
+impl<'a> BitReader<'a> {
+    fn new(bytes: &'a [u8]) -> Self {
+        BitReader { bytes, at: 0 }
+    }
+
+    fn take(&mut self, bits: usize) -> usize {
+        let mut number = 0;
+        for _ in 0..bits {
+            let bit = self.bytes[self.at / 8] >> (7 - self.at % 8) & 1;
+            number = 2 * number + bit as usize;
+            self.at += 1;
+        }
+        number
+    }
+
+    fn take_signed(&mut self, bits: usize) -> i64 {
+        let number = self.take(bits) as i64;
+        if number >= 1 << (bits - 1) {
+            number - (1 << bits)
+        } else {
+            number
+        }
+    }
+}
+
+/// Decodes one row by itself, given the counts of participants and locations.
+pub fn decode_row(participants: i64, locations: i64, bytes: &[u8]) -> Result<Row, u32> {
+    check_counts(participants, locations)?;
+    if bytes.len() != ROW_BYTES {
+        return Err(9);
+    }
+    let mut bits = BitReader::new(bytes);
+    let row = Row {
+        market: bits.take(1),
+        kind: bits.take(3),
+        interval: bits.take(4),
+        participant: bits.take(6),
+        location: bits.take(6),
+        kw: bits.take(25) as i64,
+    };
+    let spare = bits.take(3);
+
+    let virtual_bid = row.kind == DECREMENT || row.kind == INCREMENT;
+    if row.kind > INCREMENT || (virtual_bid && row.market == REAL_TIME) {
+        return Err(4);
+    }
+    check_interval(row.market, row.interval)?;
+    if row.participant >= participants as usize || row.location >= locations as usize {
+        return Err(3);
+    }
+    if row.kw > MOST_KW {
+        return Err(2);
+    }
+    if spare != 0 {
+        return Err(9);
+    }
+    Ok(row)
+}
+
+/// Decodes one transaction by itself, with the same order of refusals.
+pub fn decode_transaction(
+    participants: i64,
+    locations: i64,
+    bytes: &[u8],
+) -> Result<Transaction, u32> {
+    check_counts(participants, locations)?;
+    if bytes.len() != TRANSACTION_BYTES {
+        return Err(9);
+    }
+    let mut bits = BitReader::new(bytes);
+    let transaction = Transaction {
+        market: bits.take(1),
+        interval: bits.take(4),
+        participant: bits.take(6),
+        source: bits.take(6),
+        sink: bits.take(6),
+        kw: bits.take(25) as i64,
+    };
+
+    check_interval(transaction.market, transaction.interval)?;
+    if transaction.participant >= participants as usize
+        || transaction.source >= locations as usize
+        || transaction.sink >= locations as usize
+    {
+        return Err(3);
+    }
+    if transaction.kw > MOST_KW {
+        return Err(2);
+    }
+    Ok(transaction)
+}
+
+fn check_counts(participants: i64, locations: i64) -> Result<(), u32> {
+    if (1..=64).contains(&participants) && (1..=64).contains(&locations) {
+        Ok(())
+    } else {
+        Err(1)
+    }
+}
+
+/// Intervals are 0 to 11 in real time and 0 only in the day-ahead market.
+fn check_interval(market: usize, interval: usize) -> Result<(), u32> {
+    if interval >= INTERVALS || (market == DAY_AHEAD && interval != 0) {
+        Err(4)
+    } else {
+        Ok(())
+    }
+}
+
+/// The header, once the file has the length that it tells.
+pub fn read_header(file: &[u8]) -> Result<Header, u32> {
+    if file.len() < HEADER_BYTES {
+        return Err(9);
+    }
+    let mut bits = BitReader::new(file);
+    let header = Header {
+        participants: bits.take(6) + 1,
+        locations: bits.take(6) + 1,
+        rows: bits.take(12),
+        transactions: bits.take(10),
+    };
+    let spare = bits.take(6);
+
+    if spare != 0 {
+        return Err(9);
+    }
+    if header.rows > MOST_ROWS || header.transactions > MOST_TRANSACTIONS {
+        return Err(1);
+    }
+    if file.len() != header.file_length() {
+        return Err(9);
+    }
+    Ok(header)
+}
+
+/// What follows the header that `read_header` gave for this file.
+pub fn read_hour(file: &[u8], header: &Header) -> Result<Hour, u32> {
+    let participants = header.participants as i64;
+    let locations = header.locations as i64;
+
+    let mut prices = BitReader::new(&file[HEADER_BYTES..header.rows_start()]);
+    let congestion = read_prices(&mut prices, header.locations)?;
+    let loss = read_prices(&mut prices, header.locations)?;
+
+    let mut rows = Vec::new();
+    for bytes in file[header.rows_start()..header.transactions_start()].chunks(ROW_BYTES) {
+        rows.push(decode_row(participants, locations, bytes)?);
+    }
+    let mut transactions = Vec::new();
+    for bytes in file[header.transactions_start()..].chunks(TRANSACTION_BYTES) {
+        transactions.push(decode_transaction(participants, locations, bytes)?);
+    }
+    Ok(Hour {
+        participants: header.participants,
+        locations: header.locations,
+        congestion,
+        loss,
+        rows,
+        transactions,
+    })
+}
+
+fn read_prices(bits: &mut BitReader, locations: usize) -> Result<Prices, u32> {
+    let mut stretches = Vec::new();
+    for _ in 0..1 + INTERVALS {
+        let mut stretch = Vec::new();
+        for _ in 0..locations {
+            let price = bits.take_signed(8 * PRICE_BYTES);
+            if !(-MOST_PRICE..=MOST_PRICE).contains(&price) {
+                return Err(2);
+            }
+            stretch.push(price);
+        }
+        stretches.push(stretch);
+    }
+    let day_ahead = stretches.remove(0);
+    Ok(Prices {
+        day_ahead,
+        real_time: stretches,
+    })
+}
+
+/// 0 for a file that passes the order to its last transaction, or its refusal.
+pub fn check(file: &[u8]) -> u32 {
+    let hour = read_header(file).and_then(|header| read_hour(file, &header));
+    match hour {
+        Ok(_) => 0,
+        Err(number) => number,
+    }
+}
+
+/// Where the rows stand in the file and how many bytes they take. A stretch
+/// without rows, as that of every refused file, stands at 0.
+pub fn rows_stretch(file: &[u8]) -> (usize, usize) {
+    match read_header(file) {
+        Ok(header) if header.rows > 0 && check(file) == 0 => {
+            (header.rows_start(), header.rows * ROW_BYTES)
+        }
+        _ => (0, 0),
+    }
+}
+
+#[cfg(test)]
+mod tests {
+    use super::*;
+    use crate::numbers::unhex;
+
+    #[test]
+    fn longest_file() {
+        let header = Header {
+            participants: 64,
+            locations: 64,
+            rows: MOST_ROWS,
+            transactions: MOST_TRANSACTIONS,
+        };
+        assert_eq!(header.file_length(), 18_821);
+    }
+
+    #[test]
+    fn stretch() {
+        let mut file = unhex("0000010000");
+        file.resize(5 + 78, 0);
+        file.extend(unhex("800000000008"));
+        assert_eq!(check(&file), 0);
+        assert_eq!(rows_stretch(&file), (83, 6));
+        // A transaction's fault empties the stretch, too.
+        file[3] = 0x00;
+        file[4] = 0x40;
+        file.extend(unhex("080000000000"));
+        assert_eq!(check(&file), 4);
+        assert_eq!(rows_stretch(&file), (0, 0));
+        assert_eq!(check(&[]), 9);
+        assert_eq!(rows_stretch(&[]), (0, 0));
+    }
+}

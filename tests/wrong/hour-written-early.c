@@ -1,0 +1,3 @@
+/* Congestion charges are written before the surplus is tested. */
+#define MISTAKE WRITTEN_EARLY
+#include "hour.h"

@@ -1,0 +1,25 @@
+/*
+ * The one place where a stand-in over load.h, hour.h or exercise.h goes wrong.
+ * It defines MISTAKE as one of these before it includes the body.
+ */
+#ifndef MISTAKE_H
+#define MISTAKE_H
+
+enum {
+    NONE,
+    /* of load */
+    CONTRACTS_TOGETHER,
+    REST_TO_DISTRIBUTOR,
+    CONTRACTS_IN_TURN,
+    /* of the hour */
+    LOCATIONS_SKIPPED,
+    BIDS_SHARE,
+    INTERVALS_ROUNDED,
+    WRITTEN_EARLY,
+    /* of a row, the check and the reader */
+    RANGE_BEFORE_IDENTITY,
+    TRANSACTIONS_UNTESTED,
+    STRETCH_OF_REFUSED
+};
+
+#endif
