@@ -1,17 +1,16 @@
 -- The size of sums, differences, products and negations; from sizes to "fits 64 bits". Assumes nothing.
-use mathlib.Core.Path.{_≡_, refl, sym, ap, ap₂, _∙_, subst}
-use mathlib.Core.Bool.{Bool, true, false}
+use mathlib.Core.Path.{_≡_, refl, sym, subst}
 use Prim.Native.Nat.{ℕ, zero, suc, _+_, _*_, _-_, _^_, _≤_, _<_}
 use native.Mathlib.Nat.{mul-le-mul}
 use native.Mathlib.Omega.{arith}
-use lib.Dec.{T, ltb, leb, ltb→lt, leb→le, le→leb, lt→ltb}
+use lib.Dec.{T, ltb, leb, ltb→lt, leb→le, le→leb}
 use lib.IntN.{ℤ, pos, negsuc, negℤ, natAbs, subℕ, _+ℤ_, _-ℤ_, _*ℤ_}
-use lib.Signed.{mag, leZ, ltZ, _≤ℤ_, _<ℤ_}
+use lib.Signed.{mag, _≤ℤ_}
 use mir.Syntax.{Width, w64}
 use mir.Val.{SFits, hbits, toZ, ofZ}
 use mir.Facts.{toZ-ofZ}
 use Rattle.ints.specs.Number.{Within}
-use Rattle.ints.proofs.Diff.{_⊖_, ⊖-view, ⊖-laws, ⊖-eq, ind1, ind2, ind3, sub-ind, pos-⊖}
+use Rattle.ints.proofs.Diff.{_⊖_, ⊖-laws, ind2, sub-ind}
 
 -- ---- size and order at differences
 

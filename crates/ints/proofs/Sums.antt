@@ -1,19 +1,16 @@
 -- Laws of sums in ℤ over a list. Assumes nothing.
-use mathlib.Core.Path.{_≡_, refl, sym, ap, ap₂, _∙_, subst}
-use mathlib.Core.List.{List, [], _∷_, _++_, map}
+use mathlib.Core.Path.{_≡_, refl, sym, ap, ap₂, _∙_}
+use mathlib.Core.Logic.{_≢_, ⊎-elim}
+use mathlib.Core.List.{List, [], _∷_, _++_}
 use Prim.Native.Nat.{ℕ, zero, suc, _+_, _*_, _≤_, _<_}
-use native.Mathlib.Nat.{mul-le-mul, eq-or-lt-of-le, le-of-suc-le-suc}
+use native.Mathlib.Nat.{eq-or-lt-of-le, le-of-suc-le-suc}
 use native.Mathlib.Numerals.{add-one}
 use native.Mathlib.Omega.{arith}
-use lib.ListN.{length, take, drop, getD}
+use lib.IntN.{ℤ, pos, negℤ, natAbs, _+ℤ_, _*ℤ_, +ℤ-idl, +ℤ-idr, +ℤ-assoc, +ℤ-comm, *ℤ-zero, *ℤ-comm, negℤ-+ℤ}
+use lib.ListN.{length, take, getD}
 use lib.Seq.{take-suc, take-length}
-use lib.IntN.{ℤ, pos, negsuc, negℤ, natAbs, _+ℤ_, _-ℤ_, _*ℤ_, +ℤ-idl, +ℤ-idr, +ℤ-assoc, +ℤ-comm, *ℤ-zero, zero-*ℤ, *ℤ-comm, negℤ-+ℤ}
-use mathlib.Core.Logic.{_≢_, ⊎-elim}
-use mathlib.Core.Bool.{Bool, true, false}
-use lib.Dec.{eqb}
-use borrow.Author.Tests.{eq-eqb, ne-eqb}
-use Rattle.ints.specs.Sum.{Σℤ, sumTo, only}
-use Rattle.ints.proofs.Diff.{_⊖_, ⊖-laws, ⊖-eq, ind3, ind2, *ℤ-distl}
+use Rattle.ints.specs.Sum.{Σℤ, sumTo}
+use Rattle.ints.proofs.Diff.{*ℤ-distl}
 use Rattle.ints.proofs.Sizes.{abs-add}
 
 module _ {A : Type 0} (f : A → ℤ) where

@@ -5,12 +5,12 @@ use mathlib.Core.Bool.{Bool}
 use Prim.Native.Nat.{ℕ}
 use lib.IntN.{ℤ}
 use contract.Lifetimes.{Lfts}
-use Rattle.ints.proofs.size.Reads as size
-use Rattle.ints.proofs.negative.Reads as negative
-use Rattle.ints.proofs.with_sign.Reads as with-sign
-use Rattle.ints.proofs.wide.Reads as wide
-use Rattle.ints.proofs.is_between.Reads as is-between
 use Rattle.ints.proofs.all_between.Reads as all-between
+use Rattle.ints.proofs.is_between.Reads as is-between
+use Rattle.ints.proofs.negative.Reads as negative
+use Rattle.ints.proofs.size.Reads as size
+use Rattle.ints.proofs.wide.Reads as wide
+use Rattle.ints.proofs.with_sign.Reads as with-sign
 
 -- two results that are both what a definition gives
 pub unique : {A : Type 0} {x y defined : A} → x ≡ defined → y ≡ defined → x ≡ y

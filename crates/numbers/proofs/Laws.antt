@@ -1,21 +1,20 @@
 -- Laws of numbers in bytes: the round trips, a write is `set`, a list is filled from the front. Assumes nothing.
 use mathlib.Core.Path.{_≡_, refl, sym, ap, ap₂, _∙_, subst}
-use mathlib.Core.Logic.{⊎-elim}
+use mathlib.Core.Bool.{Bool, true, false}
 use mathlib.Core.List.{List, [], _∷_, _++_, append-assoc, append-nil}
 use Prim.Native.Nat.{ℕ, zero, suc, _+_, _*_, _/_, _%_, _-_, _^_, _≤_, _<_}
+use native.Mathlib.Decide.{decLt, ℕ-discrete}
 use native.Mathlib.Nat.{mod-add-div, div-lt-iff-lt-mul, pow-suc}
 use native.Mathlib.Numerals.{add-one}
-use native.Mathlib.Decide.{decLt, ℕ-discrete}
 use native.Mathlib.Omega.{arith}
+use lib.Dec.{ltb}
 use lib.IntN.{ℤ, pos, negsuc}
 use lib.ListN.{length, getD, take, drop, set, length-set, length-append, length-drop, take-append-drop, drop-of-length-le}
 use lib.Seq.{take-at, drop-at, take-all, take-add, take-suc, drop-drop, length-take-le, take-append-le, drop-append-le, drop-append-add, ext-getD, getD-take, getD-drop, getD-set-same, getD-set-other}
-use borrow.Author.Tests.{lt-ltb, le-ltb}
-use lib.Dec.{ltb}
-use mathlib.Core.Bool.{Bool, true, false}
-use Rattle.ints.specs.Refusal.{pick}
 use mir.Syntax.{w64}
 use mir.Val.{SFits}
+use borrow.Author.Tests.{lt-ltb, le-ltb}
+use Rattle.ints.specs.Refusal.{pick}
 use Rattle.ints.specs.Table.{_at_, tab}
 use Rattle.ints.specs.Twos.{twos, bitsOf}
 use Rattle.ints.proofs.Tables.{length-tab, getD-tab}

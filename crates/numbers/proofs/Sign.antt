@@ -1,16 +1,16 @@
 -- What the test `v < 0` tells of an `i64`: which constructor it is, with its size, and what the machine reads from its bits.
 -- Assumes nothing.
+use mathlib.Core.Path.{_≡_, refl, ap, _∙_}
+use mathlib.Core.Bool.{Bool, true, false}
 use Prim.Native.Nat.{ℕ, suc, _<_, _-_, _^_}
 use native.Mathlib.Omega.{arith}
-use mathlib.Core.Path.{_≡_, refl, sym, ap, _∙_}
-use mathlib.Core.Bool.{Bool, true, false}
 use lib.IntN.{ℤ, pos, negsuc}
 use lib.Signed.{ltZ}
-use borrow.Author.Tests.{ltb-true}
-use Rattle.ints.specs.Twos.{bitsOf}
 use mir.Syntax.{w64}
 use mir.Val.{SFits, toZ, ofZ}
 use mir.Facts.{toZ-ofZ, toZ-pos}
+use borrow.Author.Tests.{ltb-true}
+use Rattle.ints.specs.Twos.{bitsOf}
 
 pub record Negative (z : ℤ) : Type 0 where
   pub size : ℕ

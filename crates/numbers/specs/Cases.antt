@@ -1,6 +1,6 @@
 -- Numbers in their bytes, computed. Assumes nothing.
-use mathlib.Core.List.{[], _∷_}
 use mathlib.Core.Path.{_≡_, refl}
+use mathlib.Core.List.{[], _∷_}
 use lib.IntN.{pos, negsuc}
 use Rattle.ints.specs.Table.{tab}
 use Rattle.numbers.specs.Bytes.{lowestFirst, bytesOf, numbers, encoded}

@@ -17,8 +17,8 @@ use Rattle.ints.proofs.Bools.{or-true, or-right}
 use Rattle.ints.proofs.Refusals.{passed}
 use Rattle.ints.proofs.Tables.{all-at}
 use Rattle.ints.proofs.Tests.{between-size, between-natural}
-use Rattle.split.specs.Split.{share, total, refusal}
 use Rattle.split.specs.Given.{Shares}
+use Rattle.split.specs.Split.{share, total, refusal}
 
 -- the order from the ranges on, and from the total on
 abbrev pub fromTotal : ℤ → List ℤ → ℕ

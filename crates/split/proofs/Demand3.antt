@@ -1,9 +1,9 @@
 -- Demand 3: an accepted split is fair. Assumes nothing.
-use mathlib.Core.Path.{_≡_, refl, sym, ap, _∙_}
-use mathlib.Core.Logic.{_⊎_, inl, inr, ⊎-elim}
+use mathlib.Core.Path.{_≡_, sym, ap, _∙_}
+use mathlib.Core.Logic.{inl, inr, ⊎-elim}
 use mathlib.Core.Bool.{Bool, true, false}
 use mathlib.Core.List.{List}
-use Prim.Native.Nat.{ℕ, _+_, _*_, _≤_, _<_}
+use Prim.Native.Nat.{ℕ, _+_, _<_}
 use native.Mathlib.Omega.{arith}
 use lib.IntN.{ℤ, pos, natAbs, _+ℤ_, _*ℤ_}
 use lib.ListN.{length}
@@ -16,11 +16,11 @@ use Rattle.ints.proofs.Counts.{sumN-most}
 use Rattle.ints.proofs.Signs.{signed-is, size-signed, signed-zero, signed-add, signed-sum, signed-quotient}
 use Rattle.ints.proofs.Sums.{sumTo-ext}
 use Rattle.ints.proofs.Tables.{getD-tab}
-use Rattle.split.specs.Split.{share, total, cutDown, remainder, before, hasUnit, part, parts, refusal}
 use Rattle.split.specs.Fair.{Fair, proportion, further}
+use Rattle.split.specs.Split.{share, total, cutDown, remainder, before, hasUnit, part, parts, refusal}
 use Rattle.split.proofs.Accepted.{Accepted, accepted}
-use Rattle.split.proofs.Order.{says-before}
 use Rattle.split.proofs.Laws.{length-parts, part-is, part-sum, zero-part, larger-part, unit-before, no-size}
+use Rattle.split.proofs.Order.{says-before}
 
 module _ (amount : ℤ) (shares : List ℤ) (n : ℕ) (accepts : refusal amount shares n ≡ 0) where
   abbrev b : Bool

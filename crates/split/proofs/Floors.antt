@@ -3,19 +3,19 @@ use mathlib.Core.Path.{_≡_, refl, ap, ap₂, _∙_}
 use mathlib.Core.Logic.{_⊎_, inl, inr, ⊎-elim}
 use mathlib.Core.Bool.{Bool, true, false, _&&_}
 use mathlib.Core.List.{List}
-use Prim.Native.Nat.{ℕ, _+_, _*_, _-_, _≤_, _<_}
+use Prim.Native.Nat.{ℕ, _+_, _≤_, _<_}
 use native.Mathlib.Omega.{arith}
 use lib.Dec.{ltb}
 use lib.ListN.{getD}
 use borrow.Author.Count.{below-more}
-use borrow.Author.Tests.{lt-ltb, le-ltb, ltb-true, ltb-false}
+use borrow.Author.Tests.{lt-ltb, ltb-true, ltb-false}
 use Rattle.ints.specs.Refusal.{pick}
-use Rattle.ints.specs.Sum.{sumN, one, count}
+use Rattle.ints.specs.Sum.{one}
 use Rattle.ints.proofs.Bools.{either, same}
 use Rattle.ints.proofs.Counts.{sumN-ext, sumN-le, one-le}
-use Rattle.split.specs.declared.Gap.{Gap}
-use Rattle.split.specs.Split.{before, place}
 use Rattle.split.specs.Given.{keyOf, above, Keys, narrowed, Floor}
+use Rattle.split.specs.Split.{before, place}
+use Rattle.split.specs.declared.Gap.{Gap}
 use Rattle.split.proofs.Order.{Before, before-says, says-before}
 
 -- ---- the gap

@@ -1,6 +1,6 @@
 -- The laws of the parts of a size, from the definition. Assumes nothing.
 use mathlib.Core.Path.{_≡_, refl, sym, ap, _∙_, subst}
-use mathlib.Core.Logic.{_⊎_, inl, inr, ⊎-elim}
+use mathlib.Core.Logic.{inl, ⊎-elim}
 use mathlib.Core.Bool.{Bool, true, false}
 use mathlib.Core.List.{List}
 use Prim.Native.Nat.{ℕ, zero, suc, _+_, _*_, _-_, _/_, _%_, _≤_, _<_}
@@ -14,8 +14,8 @@ use Rattle.ints.specs.Number.{below0, signed}
 use Rattle.ints.specs.Sum.{sumN, one, count}
 use Rattle.ints.proofs.Counts.{sumN-ext, sumN-le, sumN-plus, sumN-scale, sumN-most, sumN-part, sumN-term, one-most, one-le}
 use Rattle.ints.proofs.Tables.{length-tab}
-use Rattle.split.specs.Split.{share, total, cutDown, remainder, unitsLeft, before, place, hasUnit, part, parts}
 use Rattle.split.specs.Given.{Shares}
+use Rattle.split.specs.Split.{share, total, cutDown, remainder, unitsLeft, before, place, hasUnit, part, parts}
 use Rattle.split.proofs.Order.{ranks, says-before, place-lt}
 
 div-mono : (m n k : ℕ) → 0 < k → m ≤ n → m / k ≤ n / k

@@ -1,12 +1,12 @@
 -- The order of parties by remainder: places in it are 0 .. n - 1, each once. Assumes nothing.
-use mathlib.Core.Path.{_≡_, refl, sym, ap, ap₂, _∙_}
+use mathlib.Core.Path.{_≡_, sym, ap, ap₂, _∙_}
 use mathlib.Core.Logic.{_⊎_, inl, inr, ⊎-elim}
 use mathlib.Core.Bool.{Bool, true, false, _||_, _&&_}
 use Prim.Native.Nat.{ℕ, zero, suc, _+_, _-_, _≤_, _<_}
 use native.Mathlib.Omega.{arith}
 use lib.Dec.{ltb, eqb}
-use borrow.Author.Tests.{lt-ltb, le-ltb, eq-eqb, ltb-true, ltb-false, eqb-true}
-use Rattle.ints.specs.Sum.{sumN, one, count}
+use borrow.Author.Tests.{lt-ltb, eq-eqb, ltb-true, ltb-false, eqb-true}
+use Rattle.ints.specs.Sum.{one, count}
 use Rattle.ints.proofs.Bools.{either, not-both, same, or-true, or-right, and-true}
 use Rattle.ints.proofs.Counts.{sumN-zero, sumN-suc, sumN-ext, sumN-le, sumN-lt, sumN-most, one-most, one-le}
 use Rattle.split.specs.Split.{before, place}

@@ -2,7 +2,7 @@
 use mathlib.Core.Path.{_≡_, sym, ap, ap₂, _∙_}
 use mathlib.Core.Bool.{Bool}
 use mathlib.Core.List.{List}
-use Prim.Native.Nat.{ℕ, _+_, _*_, _-_, _≤_, _<_}
+use Prim.Native.Nat.{ℕ, _+_, _<_}
 use native.Mathlib.Omega.{arith}
 use lib.Dec.{ltb}
 use lib.IntN.{ℤ, pos, natAbs}
@@ -13,8 +13,8 @@ use Rattle.ints.specs.Table.{tab}
 use Rattle.ints.proofs.Counts.{sumN-term}
 use Rattle.ints.proofs.Signs.{signed-zero}
 use Rattle.ints.proofs.Tables.{tab-read, tab-ext}
-use Rattle.split.specs.Split.{total, cutDown, remainder, unitsLeft, place, part, parts}
 use Rattle.split.specs.Given.{Given, keyOf, above, Keys, Floor, Cuts}
+use Rattle.split.specs.Split.{total, cutDown, remainder, unitsLeft, part, parts}
 use Rattle.split.proofs.Floors.{above-place}
 use Rattle.split.proofs.Laws.{small, cut-sum, total-most, part-is, no-size}
 

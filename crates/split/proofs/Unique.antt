@@ -1,8 +1,6 @@
 -- The contract of `split` allows one answer and one list: two that it allows at the same arguments are equal. Assumes nothing.
 use mathlib.Core.Path.{_≡_}
-use mathlib.Core.List.{List}
 use Prim.Native.Nat.{ℕ}
-use lib.IntN.{ℤ}
 use contract.Lifetimes.{Lfts}
 use Rattle.ints.proofs.Unique.{unique}
 use Rattle.split.proofs.split.Reads as split

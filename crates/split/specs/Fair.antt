@@ -1,6 +1,6 @@
 -- Demand 3 (document 00), of an amount, the shares and the parts. Assumes nothing.
-use mathlib.Core.Logic.{_⊎_}
 use mathlib.Core.Path.{_≡_}
+use mathlib.Core.Logic.{_⊎_}
 use mathlib.Core.List.{List}
 use Prim.Native.Nat.{ℕ, _≤_, _<_}
 use lib.IntN.{ℤ, pos, natAbs, _+ℤ_, _*ℤ_}

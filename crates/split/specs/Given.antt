@@ -9,8 +9,8 @@ use lib.ListN.{length, getD}
 use Rattle.ints.specs.Refusal.{pick}
 use Rattle.ints.specs.Sum.{count}
 use Rattle.ints.specs.Table.{_at_}
-use Rattle.split.specs.declared.Gap.{Gap}
 use Rattle.split.specs.Split.{share, total}
+use Rattle.split.specs.declared.Gap.{Gap}
 
 -- shares that passed the tests: at most 64, each 0 to 4,000,000,000
 pub record Shares (shares : List ℤ) : Type 0 where

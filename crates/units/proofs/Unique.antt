@@ -2,13 +2,13 @@
 use mathlib.Core.Path.{_≡_, ap}
 use lib.IntN.{ℤ}
 use Rattle.ints.proofs.Unique.{unique}
+use Rattle.units.specs.declared.Cents.{Cents}
 use Rattle.units.specs.declared.Kw.{Kw}
 use Rattle.units.specs.declared.Mills.{Mills}
 use Rattle.units.specs.declared.Twelfths.{Twelfths}
-use Rattle.units.specs.declared.Cents.{Cents}
 use Rattle.units.proofs.charge.Reads as charge
-use Rattle.units.proofs.whole_hour.Reads as whole-hour
 use Rattle.units.proofs.to_cents.Reads as to-cents
+use Rattle.units.proofs.whole_hour.Reads as whole-hour
 
 -- ---- what each contract says of a result r. `F.Post` is the `ensures` of F, over lifetimes, arguments, result and arguments at exit
 

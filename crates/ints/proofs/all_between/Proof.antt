@@ -1,14 +1,14 @@
 -- `ints::all_between` meets its contract. Assumes nothing.
-use borrow.Author.Needs.{needs, sfits-of}
-use borrow.Author.Tests.{not-true, not-false}
-use mathlib.Core.Bool.{Bool, _&&_}
-use lib.IntN.{ℤ, pos}
 use mathlib.Core.Path.{_≡_, sym, ap, _∙_}
+use mathlib.Core.Bool.{Bool, _&&_}
 use Prim.Native.Nat.{_+_, _-_, _≤_}
+use lib.IntN.{ℤ, pos}
 use lib.ListN.{length, getD, drop}
 use mir.Syntax.{w64}
 use mir.Val.{toZ, ofZ}
 use mir.Facts.{toZ-ofZ}
+use borrow.Author.Needs.{needs, sfits-of}
+use borrow.Author.Tests.{not-true, not-false}
 use Rattle.ints.specs.Number.{between}
 use Rattle.ints.specs.Table.{all}
 use Rattle.ints.proofs.Tables.{all-next, all-none}

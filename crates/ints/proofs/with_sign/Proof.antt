@@ -1,5 +1,4 @@
 -- `ints::with_sign` meets its contract. Assumes nothing.
-use borrow.Author.Needs.{needs}
 use mathlib.Core.Path.{_≡_, ap, _∙_}
 use Prim.Native.Nat.{ℕ, _<_, _^_}
 use native.Mathlib.Omega.{arith}
@@ -7,6 +6,7 @@ use lib.IntN.{ℤ, pos, negℤ, _-ℤ_, +ℤ-idl}
 use mir.Syntax.{w64}
 use mir.Val.{SFits, toZ, ofZ}
 use mir.Facts.{toZ-ofZ, toZ-pos}
+use borrow.Author.Needs.{needs}
 use Rattle.ints.proofs.Sizes.{fits64, natAbs-neg}
 use Rattle.ints.proofs.with_sign.Statement.{statement}
 use Rattle.ints.proofs.with_sign.Tie as tie

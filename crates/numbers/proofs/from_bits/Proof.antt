@@ -1,11 +1,11 @@
 -- `numbers::from_bits` meets its contract. Assumes nothing.
-use borrow.Author.Tests.{lt-ltb, le-ltb}
 use mathlib.Core.Path.{_∙_, _≡_}
-use mir.Facts.{toZ-pos}
-use mir.Syntax.{w64}
 use Prim.Native.Nat.{_-_}
 use native.Mathlib.Omega.{arith}
+use mir.Syntax.{w64}
+use mir.Facts.{toZ-pos}
 use borrow.Author.Needs.{needs}
+use borrow.Author.Tests.{lt-ltb, le-ltb}
 use Rattle.numbers.proofs.from_bits.Statement.{statement}
 use Rattle.numbers.proofs.from_bits.Tie as tie
 

@@ -1,10 +1,10 @@
 -- `numbers::number_at` meets its contract. Assumes nothing.
-use borrow.Author.Needs.{needs, sfits-of}
 use mathlib.Core.Path.{ap, _∙_}
-use Rattle.ints.specs.Twos.{twos}
 use Prim.Native.Nat.{_*_}
-use Rattle.numbers.proofs.Words.{word-is}
 use mir.Facts.{toZ-ofZ}
+use borrow.Author.Needs.{needs, sfits-of}
+use Rattle.ints.specs.Twos.{twos}
+use Rattle.numbers.proofs.Words.{word-is}
 use Rattle.numbers.proofs.number_at.Statement.{statement}
 use Rattle.numbers.proofs.number_at.Tie as tie
 

@@ -1,13 +1,13 @@
 -- `numbers::put_number` meets its contract. Assumes nothing.
-use mir.Facts.{toZ-ofZ}
-use Rattle.numbers.specs.Bytes.{bytesOf, eight}
-use Prim.Native.Nat.{ℕ, _+_, _*_}
-use lib.ListN.{take, drop}
-use mathlib.Core.List.{_++_, List}
-use borrow.Rule.Slice.PartMut.{post-is}
 use mathlib.Core.Path.{ap, _∙_}
+use mathlib.Core.List.{_++_, List}
+use Prim.Native.Nat.{ℕ, _+_, _*_}
 use native.Mathlib.Omega.{arith}
+use lib.ListN.{take, drop}
+use mir.Facts.{toZ-ofZ}
 use borrow.Author.Needs.{needs}
+use borrow.Rule.Slice.PartMut.{post-is}
+use Rattle.numbers.specs.Bytes.{bytesOf, eight}
 use Rattle.numbers.proofs.put_number.Statement.{statement}
 use Rattle.numbers.proofs.put_number.Tie as tie
 

@@ -1,9 +1,9 @@
 -- `numbers::put_word` meets its contract. Assumes nothing.
-use Rattle.numbers.proofs.Words.{stores, bytes-are}
 use mathlib.Core.Path.{_∙_, sym}
-use lib.ListN.{length-set}
 use native.Mathlib.Omega.{arith}
+use lib.ListN.{length-set}
 use borrow.Author.Needs.{needs}
+use Rattle.numbers.proofs.Words.{stores, bytes-are}
 use Rattle.numbers.proofs.put_word.Statement.{statement}
 use Rattle.numbers.proofs.put_word.Tie as tie
 

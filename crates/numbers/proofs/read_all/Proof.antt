@@ -1,11 +1,11 @@
 -- `numbers::read_all` meets its contract. Assumes nothing.
-use borrow.Author.Needs.{needs, sfits-of}
-use native.Mathlib.Omega.{arith}
 use mathlib.Core.Path.{_≡_, ap, _∙_}
 use Prim.Native.Nat.{_-_, _/_, _≤_}
+use native.Mathlib.Omega.{arith}
 use lib.ListN.{length, take, length-set}
 use mir.Syntax.{w64}
 use mir.Facts.{toZ-ofZ}
+use borrow.Author.Needs.{needs, sfits-of}
 use Rattle.ints.specs.Table.{tab}
 use Rattle.ints.proofs.Tables.{tab-none, tab-store, tab-done}
 use Rattle.numbers.specs.Bytes.{numberAt}

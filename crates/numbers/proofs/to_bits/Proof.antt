@@ -1,7 +1,7 @@
 -- `numbers::to_bits` meets its contract. Assumes nothing.
+use native.Mathlib.Omega.{arith}
 use borrow.Author.Needs.{needs}
 use Rattle.numbers.proofs.Sign.{negative, positive}
-use native.Mathlib.Omega.{arith}
 use Rattle.numbers.proofs.to_bits.Statement.{statement}
 use Rattle.numbers.proofs.to_bits.Tie as tie
 

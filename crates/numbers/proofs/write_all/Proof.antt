@@ -1,13 +1,13 @@
 -- `numbers::write_all` meets its contract. Assumes nothing.
-use borrow.Author.Needs.{needs, sfits-of}
-use native.Mathlib.Omega.{arith}
 use mathlib.Core.Path.{_≡_, ap, _∙_}
 use mathlib.Core.List.{List, _++_}
 use Prim.Native.Nat.{ℕ, _*_, _-_, _≤_}
+use native.Mathlib.Omega.{arith}
 use lib.ListN.{length, take, drop}
 use mir.Syntax.{w64}
 use mir.Val.{toZ, ofZ}
 use mir.Facts.{toZ-ofZ}
+use borrow.Author.Needs.{needs, sfits-of}
 use Rattle.ints.specs.Table.{_at_}
 use Rattle.numbers.specs.Bytes.{withNumber, encoded}
 use Rattle.numbers.proofs.Laws.{fill-none, fill-next, fill-done}

@@ -1,13 +1,13 @@
 -- `split::above` meets its contract. Assumes nothing.
-use Rattle.split.specs.Given.{above as Given·above}
-use Rattle.ints.proofs.Counts.{sumN-zero, sumN-next, sumN-most, one-most}
-use Rattle.ints.specs.Sum.{sumN, one}
-use lib.ListN.{getD}
-use lib.Dec.{ltb}
-use native.Mathlib.Omega.{arith}
-use Prim.Native.Nat.{ℕ, _+_, _-_, _≤_}
 use mathlib.Core.Path.{_≡_, sym, ap, ap₂, _∙_}
+use Prim.Native.Nat.{ℕ, _+_, _-_, _≤_}
+use native.Mathlib.Omega.{arith}
+use lib.Dec.{ltb}
+use lib.ListN.{getD}
 use borrow.Author.Needs.{needs}
+use Rattle.ints.specs.Sum.{sumN, one}
+use Rattle.ints.proofs.Counts.{sumN-zero, sumN-next, sumN-most, one-most}
+use Rattle.split.specs.Given.{above as Given·above}
 use Rattle.split.proofs.above.Statement.{statement}
 use Rattle.split.proofs.above.Tie as tie
 

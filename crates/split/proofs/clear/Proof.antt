@@ -1,12 +1,12 @@
 -- `split::clear` meets its contract. Assumes nothing.
-use Rattle.ints.proofs.Tables.{tab-none, tab-store, tab-done}
-use Rattle.ints.specs.Table.{tab}
-use lib.ListN.{length, take, length-set}
-use lib.IntN.{pos}
-use native.Mathlib.Omega.{arith}
-use Prim.Native.Nat.{ℕ, _-_, _≤_}
 use mathlib.Core.Path.{_≡_, refl, ap, _∙_}
+use Prim.Native.Nat.{ℕ, _-_, _≤_}
+use native.Mathlib.Omega.{arith}
+use lib.IntN.{pos}
+use lib.ListN.{length, take, length-set}
 use borrow.Author.Needs.{needs}
+use Rattle.ints.specs.Table.{tab}
+use Rattle.ints.proofs.Tables.{tab-none, tab-store, tab-done}
 use Rattle.split.proofs.clear.Statement.{statement}
 use Rattle.split.proofs.clear.Tie as tie
 

@@ -1,16 +1,16 @@
 -- `split::divide` meets its contract. Assumes nothing.
-use Rattle.split.proofs.Laws.{small, cut-front, total-most}
+use mathlib.Core.Path.{_≡_, sym, ap, ap₂, _∙_}
+use Prim.Native.Nat.{ℕ, _+_, _*_, _-_, _/_, _%_, _≤_, _<_}
+use native.Mathlib.Omega.{arith}
+use lib.ListN.{length, take, length-set}
+use borrow.Author.Needs.{needs}
+use Rattle.ints.specs.Sum.{sumN}
+use Rattle.ints.specs.Table.{tab}
+use Rattle.ints.proofs.Counts.{sumN-zero, sumN-next}
+use Rattle.ints.proofs.Tables.{tab-none, tab-store}
 use Rattle.split.specs.Given.{keyOf}
 use Rattle.split.specs.Split.{total, cutDown, remainder, unitsLeft}
-use Rattle.ints.proofs.Tables.{tab-none, tab-store}
-use Rattle.ints.proofs.Counts.{sumN-zero, sumN-next}
-use Rattle.ints.specs.Table.{tab}
-use Rattle.ints.specs.Sum.{sumN}
-use lib.ListN.{length, take, length-set}
-use native.Mathlib.Omega.{arith}
-use Prim.Native.Nat.{ℕ, _+_, _*_, _-_, _/_, _%_, _≤_, _<_}
-use mathlib.Core.Path.{_≡_, sym, ap, ap₂, _∙_}
-use borrow.Author.Needs.{needs}
+use Rattle.split.proofs.Laws.{small, cut-front, total-most}
 use Rattle.split.proofs.divide.Statement.{statement}
 use Rattle.split.proofs.divide.Tie as tie
 

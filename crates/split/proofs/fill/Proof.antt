@@ -1,12 +1,12 @@
 -- `split::fill` meets its contract. Assumes nothing.
-use Rattle.split.proofs.Parts.{keys-ranged, cuts-ranged, parts-made}
-use Rattle.split.specs.Given.{Cuts, Floor}
-use Rattle.ints.specs.Table.{tab}
-use lib.ListN.{length}
-use Prim.Native.Nat.{ℕ}
-use mathlib.Core.List.{List}
 use mathlib.Core.Path.{sym, ap, _∙_, subst}
+use mathlib.Core.List.{List}
+use Prim.Native.Nat.{ℕ}
+use lib.ListN.{length}
 use borrow.Author.Needs.{needs}
+use Rattle.ints.specs.Table.{tab}
+use Rattle.split.specs.Given.{Cuts, Floor}
+use Rattle.split.proofs.Parts.{keys-ranged, cuts-ranged, parts-made}
 use Rattle.split.proofs.fill.Statement.{statement}
 use Rattle.split.proofs.fill.Tie as tie
 

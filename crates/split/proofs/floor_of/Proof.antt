@@ -1,9 +1,9 @@
 -- `split::floor_of` meets its contract. Assumes nothing.
-use Rattle.split.proofs.Floors.{Narrowing, begin, narrower, floor-found}
-use native.Mathlib.Omega.{arith}
-use Prim.Native.Nat.{ℕ, _-_, _≤_}
 use mathlib.Core.Path.{_≡_, subst}
+use Prim.Native.Nat.{ℕ, _-_, _≤_}
+use native.Mathlib.Omega.{arith}
 use borrow.Author.Needs.{needs}
+use Rattle.split.proofs.Floors.{Narrowing, begin, narrower, floor-found}
 use Rattle.split.proofs.floor_of.Statement.{statement}
 use Rattle.split.proofs.floor_of.Tie as tie
 

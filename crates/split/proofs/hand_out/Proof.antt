@@ -1,18 +1,18 @@
 -- `split::hand_out` meets its contract. Assumes nothing.
-use Rattle.ints.proofs.Tables.{tab-none, tab-store, tab-done}
-use Rattle.ints.proofs.Counts.{one-most}
-use Rattle.ints.specs.Table.{tab}
-use Rattle.ints.specs.Sum.{one}
-use Rattle.ints.specs.Number.{signed}
-use mir.Facts.{toZ-ofZ}
-use mir.Syntax.{w64}
-use lib.ListN.{length, getD, take, length-set}
-use lib.IntN.{ℤ}
-use lib.Dec.{ltb}
-use native.Mathlib.Omega.{arith}
-use Prim.Native.Nat.{ℕ, _+_, _-_, _≤_}
 use mathlib.Core.Path.{_≡_, ap, _∙_}
+use Prim.Native.Nat.{ℕ, _+_, _-_, _≤_}
+use native.Mathlib.Omega.{arith}
+use lib.Dec.{ltb}
+use lib.IntN.{ℤ}
+use lib.ListN.{length, getD, take, length-set}
+use mir.Syntax.{w64}
+use mir.Facts.{toZ-ofZ}
 use borrow.Author.Needs.{needs, sfits-of}
+use Rattle.ints.specs.Number.{signed}
+use Rattle.ints.specs.Sum.{one}
+use Rattle.ints.specs.Table.{tab}
+use Rattle.ints.proofs.Counts.{one-most}
+use Rattle.ints.proofs.Tables.{tab-none, tab-store, tab-done}
 use Rattle.split.proofs.hand_out.Statement.{statement}
 use Rattle.split.proofs.hand_out.Tie as tie
 

@@ -1,6 +1,6 @@
 -- `split::narrow` meets its contract. Assumes nothing.
-use borrow.Author.Tests.{lt-ltb, le-ltb}
 use borrow.Author.Needs.{needs}
+use borrow.Author.Tests.{lt-ltb, le-ltb}
 use Rattle.split.proofs.narrow.Statement.{statement}
 use Rattle.split.proofs.narrow.Tie as tie
 

@@ -1,8 +1,8 @@
 -- `split::product` meets its contract. Assumes nothing.
-use native.Mathlib.Omega.{arith}
-use native.Mathlib.Nat.{mul-le-mul}
-use Prim.Native.Nat.{ℕ, _*_}
 use mathlib.Core.Path.{ap}
+use Prim.Native.Nat.{ℕ, _*_}
+use native.Mathlib.Nat.{mul-le-mul}
+use native.Mathlib.Omega.{arith}
 use borrow.Author.Needs.{needs}
 use Rattle.split.proofs.product.Statement.{statement}
 use Rattle.split.proofs.product.Tie as tie

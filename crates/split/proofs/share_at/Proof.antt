@@ -1,13 +1,13 @@
 -- `split::share_at` meets its contract. Assumes nothing.
-use mir.Facts.{toZ-ofZ}
-use mir.Val.{Fits}
-use mir.Syntax.{w64}
-use lib.Signed.{nonNeg}
-use lib.IntN.{ℤ, pos, natAbs}
-use lib.Dec.{T}
-use native.Mathlib.Omega.{arith}
-use Prim.Native.Nat.{ℕ, _≤_}
 use mathlib.Core.Path.{_≡_, sym, _∙_, subst}
+use Prim.Native.Nat.{ℕ, _≤_}
+use native.Mathlib.Omega.{arith}
+use lib.Dec.{T}
+use lib.IntN.{ℤ, pos, natAbs}
+use lib.Signed.{nonNeg}
+use mir.Syntax.{w64}
+use mir.Val.{Fits}
+use mir.Facts.{toZ-ofZ}
 use borrow.Author.Needs.{needs, sfits-of}
 use Rattle.split.proofs.share_at.Statement.{statement}
 use Rattle.split.proofs.share_at.Tie as tie

@@ -1,28 +1,40 @@
 -- `split::split` meets its contract. Assumes nothing.
-use Rattle.split.proofs.Parts.{zeros-made, amount-made}
+use mathlib.Core.Path.{_≡_, sym, ap, _∙_}
+use mathlib.Core.List.{List}
+use Prim.Native.Nat.{ℕ, suc, _<_}
+use native.Mathlib.Omega.{arith}
+use lib.IntN.{ℤ, pos, negℤ, natAbs}
+use lib.ListN.{length}
+use mir.Facts.{toZ-ofZ}
+use borrow.Author.Needs.{needs}
+use borrow.Author.Tests.{le-leb, lt-leb, eq-eqb, ne-eqb, not-true, not-false}
+use Rattle.ints.specs.Number.{below0, between}
+use Rattle.ints.specs.Refusal.{lent}
+use Rattle.ints.specs.Table.{all}
 use Rattle.ints.proofs.Refusals.{refused, done}
-use Rattle.split.proofs.Accepted.{fromRanges, fromTotal, shares-of, without-amount, with-total, without-total}
+use Rattle.ints.proofs.Tests.{between-size}
 use Rattle.split.specs.Given.{Shares, Given}
 use Rattle.split.specs.Split.{total, parts, refusal}
-use Rattle.ints.proofs.Tests.{between-size}
-use Rattle.ints.specs.Table.{all}
-use Rattle.ints.specs.Number.{below0, between}
-use mir.Facts.{toZ-ofZ}
-use borrow.Author.Tests.{le-leb, lt-leb, eq-eqb, ne-eqb, not-true, not-false}
-use lib.ListN.{length}
-use lib.IntN.{pos, negℤ, natAbs}
-use native.Mathlib.Omega.{arith}
-use Prim.Native.Nat.{_<_}
-use mathlib.Core.Path.{_≡_, sym, ap, _∙_}
-use borrow.Author.Needs.{needs}
+use Rattle.split.proofs.Accepted.{fromRanges, fromTotal, shares-of, without-amount, with-total, without-total}
+use Rattle.split.proofs.Parts.{zeros-made, amount-made}
 use Rattle.split.proofs.split.Statement.{statement}
 use Rattle.split.proofs.split.Tie as tie
+
+-- the answer and the result by the definition, and a refusal with a number other than 0
+abbrev answer : tie.Start → ℕ
+answer s = refusal (s .args .amount) (s .args .shares .now) (length (s .args .parts .now))
+
+abbrev result : tie.Start → List ℤ
+result s = parts (s .args .amount) (s .args .shares .now)
+
+refuse : (s : tie.Start) (k : ℕ) → suc k ≡ answer s → (suc k ≡ answer s) × (s .args .parts .now ≡ lent (answer s) (result s) (s .args .parts .now))
+refuse s k e = refused (answer s) (result s) (s .args .parts .now) k e
 
 -- the counts have passed
 abbrev start : tie.Else3 → tie.Start
 start c = c .before .before .before
 
-counted : (c : tie.Else3) → let a = start c .args in refusal (a .amount) (a .shares .now) (length (a .parts .now)) ≡ fromRanges (a .amount) (a .shares .now)
+counted : (c : tie.Else3) → let a = start c .args in answer (start c) ≡ fromRanges (a .amount) (a .shares .now)
 unfolding refusal
 counted c = simp (le-leb _ _ (c .before .before .if1 .left), le-leb _ _ (c .before .if2 .left), eq-eqb _ _ (c .if3 .left))
 
@@ -37,7 +49,7 @@ shares-in c = c .all-between .ensures
 abbrev early : tie.Else5 → tie.Else3
 early c = c .before .before .before .before
 
-ranged : (c : tie.Else5) → let a = start (early c) .args in refusal (a .amount) (a .shares .now) (length (a .parts .now)) ≡ fromTotal (a .amount) (a .shares .now)
+ranged : (c : tie.Else5) → let a = start (early c) .args in answer (start (early c)) ≡ fromTotal (a .amount) (a .shares .now)
 ranged c = counted (early c) ∙ simp (sym (amount-in (c .before .before .before)) ∙ not-false _ (c .before .before .if4 .left), sym (shares-in (c .before)) ∙ not-false _ (c .if5 .left))
 
 tested : (c : tie.Else5) → Shares (start (early c) .args .shares .now)
@@ -65,27 +77,27 @@ given c =
 
 returns : tie.Need-returns
 unfolding refusal
-returns c = let a = c .before .args in refused (refusal (a .amount) (a .shares .now) (length (a .parts .now))) (parts (a .amount) (a .shares .now)) (a .parts .now) 0 (simp (lt-leb _ _ (c .if1 .taken)))
+returns c = refuse (c .before) 0 (simp (lt-leb _ _ (c .if1 .taken)))
 
 returns-2 : tie.Need-returns-2
 unfolding refusal
-returns-2 c = let a = c .before .before .args in refused (refusal (a .amount) (a .shares .now) (length (a .parts .now))) (parts (a .amount) (a .shares .now)) (a .parts .now) 0 (simp (le-leb _ _ (c .before .if1 .left), lt-leb _ _ (c .if2 .taken)))
+returns-2 c = refuse (c .before .before) 0 (simp (le-leb _ _ (c .before .if1 .left), lt-leb _ _ (c .if2 .taken)))
 
 returns-3 : tie.Need-returns-3
 unfolding refusal
-returns-3 c = let a = c .before .before .before .args in refused (refusal (a .amount) (a .shares .now) (length (a .parts .now))) (parts (a .amount) (a .shares .now)) (a .parts .now) 0 (simp (le-leb _ _ (c .before .before .if1 .left), le-leb _ _ (c .before .if2 .left), ne-eqb _ _ (c .if3 .taken)))
+returns-3 c = refuse (c .before .before .before) 0 (simp (le-leb _ _ (c .before .before .if1 .left), le-leb _ _ (c .before .if2 .left), ne-eqb _ _ (c .if3 .taken)))
 
 is-between-requires : tie.Need-is-between-requires
 is-between-requires c κs = search needs
 
 returns-4 : tie.Need-returns-4
-returns-4 c = let a = start (c .before .before) .args in refused (refusal (a .amount) (a .shares .now) (length (a .parts .now))) (parts (a .amount) (a .shares .now)) (a .parts .now) 1 (sym (counted (c .before .before) ∙ simp (sym (amount-in (c .before)) ∙ not-true _ (c .if4 .taken))))
+returns-4 c = refuse (start (c .before .before)) 1 (sym (counted (c .before .before) ∙ simp (sym (amount-in (c .before)) ∙ not-true _ (c .if4 .taken))))
 
 all-between-requires : tie.Need-all-between-requires
 all-between-requires c κs = search needs
 
 returns-5 : tie.Need-returns-5
-returns-5 c = let a = start (c .before .before .before .before) .args in refused (refusal (a .amount) (a .shares .now) (length (a .parts .now))) (parts (a .amount) (a .shares .now)) (a .parts .now) 1 (sym (counted (c .before .before .before .before) ∙ simp (sym (amount-in (c .before .before .before)) ∙ not-false _ (c .before .before .if4 .left), sym (shares-in (c .before)) ∙ not-true _ (c .if5 .taken))))
+returns-5 c = refuse (start (c .before .before .before .before)) 1 (sym (counted (c .before .before .before .before) ∙ simp (sym (amount-in (c .before .before .before)) ∙ not-false _ (c .before .before .if4 .left), sym (shares-in (c .before)) ∙ not-true _ (c .if5 .taken))))
 
 size-requires : tie.Need-size-requires
 size-requires c κs = search needs
@@ -98,9 +110,10 @@ same-length c = search needs
 
 returns-6 : tie.Need-returns-6
 returns-6 c = let z = c .before .before .before .before in
-    let a = start (early (z .before)) .args in
+    let s = start (early (z .before)) in
+    let a = s .args in
     let none : natAbs (a .amount) ≡ 0 = sym (size-is z) ∙ c .before .before .before .if6 .taken in
-    done (refusal (a .amount) (a .shares .now) (length (a .parts .now))) (parts (a .amount) (a .shares .now)) (a .parts .now) _ (sym (ranged (z .before) ∙ without-amount (a .amount) (a .shares .now) none)) (c .before .clear .ensures ∙ zeros-made (a .amount) (a .shares .now) _ none (early (z .before) .if3 .left))
+    done (answer s) (result s) (a .parts .now) _ (sym (ranged (z .before) ∙ without-amount (a .amount) (a .shares .now) none)) (c .before .clear .ensures ∙ zeros-made (a .amount) (a .shares .now) _ none (early (z .before) .if3 .left))
 
 total-of-requires : tie.Need-total-of-requires
 total-of-requires c κs = tested (c .before .before)
@@ -108,7 +121,7 @@ total-of-requires c κs = tested (c .before .before)
 returns-7 : tie.Need-returns-7
 returns-7 c = let z = c .before .before .before in
     let a = start (early (z .before)) .args in
-    refused (refusal (a .amount) (a .shares .now) (length (a .parts .now))) (parts (a .amount) (a .shares .now)) (a .parts .now) 6 (sym (ranged (z .before) ∙ without-total (a .amount) (a .shares .now) (sym (c .before .total-of .ensures) ∙ c .if7 .taken) (λ n. c .before .before .if6 .left (size-is z ∙ n))))
+    refuse (start (early (z .before))) 6 (sym (ranged (z .before) ∙ without-total (a .amount) (a .shares .now) (sym (c .before .total-of .ensures) ∙ c .if7 .taken) (λ n. c .before .before .if6 .left (size-is z ∙ n))))
 
 negative-requires : tie.Need-negative-requires
 negative-requires c κs = search needs
@@ -124,7 +137,7 @@ returns-8 c = let e = c .before .before .before .before in
     let z = sized e in
     let s = start (early (z .before)) in
     let a = s .args in
-    done (refusal (a .amount) (a .shares .now) (length (a .parts .now))) (parts (a .amount) (a .shares .now)) (a .parts .now) _ (sym (ranged (z .before) ∙ with-total (a .amount) (a .shares .now) (some e)))
+    done (answer s) (result s) (a .parts .now) _ (sym (ranged (z .before) ∙ with-total (a .amount) (a .shares .now) (some e)))
     (c .before .fill .ensures ∙ amount-made (a .amount) (a .shares .now) _ _ (c .before .before .before .negative .ensures ∙ ap below0 (toZ-ofZ (s .fits .amount))) (size-is z))
 
 pub split-spec : {M : Type 1} → statement M

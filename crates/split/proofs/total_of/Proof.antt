@@ -1,12 +1,12 @@
 -- `split::total_of` meets its contract. Assumes nothing.
-use Rattle.split.specs.Split.{share, total}
-use Rattle.ints.proofs.Counts.{sumN-zero, sumN-next, sumN-most}
-use Rattle.ints.specs.Sum.{sumN}
-use lib.ListN.{length}
-use native.Mathlib.Omega.{arith}
-use Prim.Native.Nat.{_+_, _-_, _≤_}
 use mathlib.Core.Path.{_≡_, sym, ap, ap₂, _∙_}
+use Prim.Native.Nat.{_+_, _-_, _≤_}
+use native.Mathlib.Omega.{arith}
+use lib.ListN.{length}
 use borrow.Author.Needs.{needs}
+use Rattle.ints.specs.Sum.{sumN}
+use Rattle.ints.proofs.Counts.{sumN-zero, sumN-next, sumN-most}
+use Rattle.split.specs.Split.{share, total}
 use Rattle.split.proofs.total_of.Statement.{statement}
 use Rattle.split.proofs.total_of.Tie as tie
 

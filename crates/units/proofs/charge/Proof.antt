@@ -1,11 +1,11 @@
 -- `units::charge` meets its contract: the product is within the product of the bounds, so it fits. Assumes nothing.
-use borrow.Author.Needs.{needs}
 use Prim.Native.Nat.{_<_, _^_}
 use native.Mathlib.Omega.{arith}
 use lib.IntN.{pos, _*ℤ_}
 use mir.Syntax.{w64}
 use mir.Val.{SFits}
 use mir.Facts.{toZ-ofZ, toZ-pos}
+use borrow.Author.Needs.{needs}
 use Rattle.ints.proofs.Sizes.{w-mul, w-fits, w-read}
 use Rattle.units.proofs.charge.Statement.{statement}
 use Rattle.units.proofs.charge.Tie as tie

@@ -1,5 +1,4 @@
 -- `units::to_cents` meets its contract: a size is at most 2 ^ 63, so half a cent can be added to it. Assumes nothing.
-use borrow.Author.Needs.{needs, sfits-of}
 use mathlib.Core.Path.{_≡_, ap, _∙_}
 use native.Mathlib.Omega.{arith}
 use lib.IntN.{natAbs}
@@ -7,6 +6,7 @@ use lib.Signed.{natAbs-le}
 use mir.Syntax.{w64}
 use mir.Val.{SFits}
 use mir.Facts.{toZ-ofZ}
+use borrow.Author.Needs.{needs, sfits-of}
 use Rattle.units.specs.Units.{centsOf}
 use Rattle.units.proofs.to_cents.Statement.{statement}
 use Rattle.units.proofs.to_cents.Tie as tie

@@ -1,7 +1,7 @@
 -- `units::whole_hour` meets its contract: twelve prices fit. Assumes nothing.
 use Prim.Native.Nat.{ℕ, _≤_}
-use lib.IntN.{pos, _*ℤ_}
 use lib.Dec.{lit≤}
+use lib.IntN.{pos, _*ℤ_}
 use Rattle.ints.specs.Number.{Within}
 use Rattle.ints.proofs.Sizes.{w-mul, w-fits, w-read}
 use Rattle.units.proofs.whole_hour.Statement.{statement}

@@ -1,23 +1,23 @@
 -- `wunzelihle::wz_split` meets its contract. Assumes nothing.
-use Rattle.wunzelihle.specs.Split.{splitRefusal}
-use Rattle.split.specs.Split.{refusal, parts}
-use Rattle.split.proofs.Laws.{length-parts}
-use Rattle.split.proofs.Accepted.{too-many, unequal}
-use Rattle.ints.proofs.Refusals.{lent-result, kept, refused, done}
-use Rattle.numbers.proofs.Laws.{length-numbers}
-use Rattle.numbers.specs.Bytes.{numbers, encoded}
+use mathlib.Core.Path.{_≡_, sym, ap, ap₂, _∙_}
+use mathlib.Core.List.{List, _++_}
+use Prim.Native.Nat.{ℕ, _/_}
+use native.Mathlib.Omega.{arith}
+use lib.IntN.{ℤ, pos}
+use lib.ListN.{length, take, drop, replicate, length-append}
+use lib.Seq.{take-at, length-take-le}
 use mir.Syntax.{w64}
 use mir.Val.{toZ, ofZ}
 use mir.Facts.{toZ-ofZ}
-use borrow.Author.Tests.{eq-eqb, ne-eqb}
-use lib.Seq.{take-at, length-take-le}
-use lib.ListN.{length, take, drop, replicate, length-append}
-use lib.IntN.{ℤ, pos}
-use native.Mathlib.Omega.{arith}
-use Prim.Native.Nat.{ℕ, _/_}
-use mathlib.Core.List.{List, _++_}
-use mathlib.Core.Path.{_≡_, sym, ap, ap₂, _∙_}
 use borrow.Author.Needs.{needs}
+use borrow.Author.Tests.{eq-eqb, ne-eqb}
+use Rattle.ints.proofs.Refusals.{lent-result, kept, refused, done}
+use Rattle.numbers.specs.Bytes.{numbers, encoded}
+use Rattle.numbers.proofs.Laws.{length-numbers}
+use Rattle.split.specs.Split.{refusal, parts}
+use Rattle.split.proofs.Accepted.{too-many, unequal}
+use Rattle.split.proofs.Laws.{length-parts}
+use Rattle.wunzelihle.specs.Split.{splitRefusal}
 use Rattle.wunzelihle.proofs.wz_split.Statement.{statement}
 use Rattle.wunzelihle.proofs.wz_split.Tie as tie
 

@@ -1,0 +1,78 @@
+// Runs the cases of document 01, those that are proved in specs/Cases too, and prints what each gives.
+ghost use Prim.Native.Nat.{_≤_};
+ghost use lib.ListN.{length};
+use libc::STDOUT_FILENO;
+use units::Twelfths;
+
+fn print(text: &[u8]) {
+    io::write_all(STDOUT_FILENO, text);
+}
+
+fn print_number(z: i64) {
+    if ints::negative(z) {
+        print(b"-");
+    }
+    io::print_decimal(STDOUT_FILENO, ints::size(z));
+}
+
+// The numbers of a list, a space before each.
+fn print_list(list: &[i64]) {
+    let mut i: usize = 0;
+    while i < list.len() {
+        print_item(list[i]);
+        i += 1;
+    }
+}
+
+fn print_item(z: i64) {
+    print(b" ");
+    print_number(z);
+}
+
+fn end_line() {
+    print(b"\n");
+}
+
+// An amount over shares: its parts, or its refusal.
+fn run_split(amount: i64, shares: &[i64], parts: &mut [i64]) {
+    print(b"split ");
+    print_number(amount);
+    print(b" over");
+    print_list(shares);
+    let refused = split::split(amount, shares, parts);
+    if refused != 0 {
+        print(b": refused");
+        print_item(refused as i64);
+    } else {
+        print(b" is");
+        print_list(parts);
+    }
+    end_line();
+}
+
+// Twelfths, rounded.
+fn run_rounding(amount: i64) {
+    print_number(amount);
+    print(b" twelfths are");
+    let cents = units::to_cents(Twelfths(amount));
+    print_item(cents.0);
+    print(b" cents\n");
+}
+
+fn main() {
+    let mut three = [0i64; 3];
+    run_split(10, &[1, 1, 1], &mut three);
+    run_split(-10, &[1, 1, 1], &mut three);
+    run_split(100, &[1, 2, 3], &mut three);
+    let mut two = [0i64; 2];
+    run_split(5, &[0, 1], &mut two);
+    run_split(1, &[1, 1], &mut two);
+    let mut one = [0i64; 1];
+    run_split(0, &[0], &mut one);
+    run_split(1, &[0], &mut one);
+    run_split(1_000_000_001, &[1], &mut one);
+    run_split(1, &[], &mut one);
+    run_rounding(60_000);
+    run_rounding(59_999);
+    run_rounding(-60_000);
+}
