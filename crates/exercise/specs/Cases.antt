@@ -2,7 +2,7 @@
 use mathlib.Core.Path.{_≡_, refl}
 use mathlib.Core.List.{List, [], _∷_, _++_}
 use Prim.Native.Nat.{ℕ, zero, suc}
-use lib.IntN.{ℤ, pos, negsuc}
+use lib.IntN.{pos, negsuc}
 use lib.ListN.{length}
 use Rattle.ints.specs.Table.{tab}
 use Rattle.ints.specs.Turn.{inTurn}
@@ -10,7 +10,7 @@ use Rattle.rows.specs.Packed.{bytesAt}
 use Rattle.rows.specs.Row.{rowRefusal}
 use Rattle.rows.specs.Transaction.{transactionRefusal}
 use Rattle.exercise.specs.Price.{priceAt, priceRefusal}
-use Rattle.exercise.specs.File.{header, headerOf, placesOf, headerRefusal, throughLength, fromPrices, fileRefusal, congestionReal, lossAhead, rows}
+use Rattle.exercise.specs.File.{header, placesOf, headerRefusal, throughLength, fromPrices, fileRefusal, congestionReal, lossAhead, rows}
 
 abbrev times : ℕ → List ℕ → List ℕ
 times zero s = []

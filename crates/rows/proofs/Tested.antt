@@ -10,14 +10,13 @@ use borrow.Author.Tests.{ltb-true, leb-true, eqb-true, eqb-false}
 use Rattle.ints.specs.Refusal.{pick}
 use Rattle.ints.proofs.Members.{from-tab}
 use Rattle.ints.proofs.Refusals.{passed}
-use Rattle.ints.proofs.Turns.{turn-none, answer-taken}
+use Rattle.ints.proofs.Turns.{turn-none}
 use Rattle.rows.specs.declared.Row.{Row}
 use Rattle.rows.specs.declared.Transaction.{Transaction}
 use Rattle.rows.specs.declared.DecodedRow.the-variants as DecodedRow
 use Rattle.rows.specs.declared.DecodedTransaction.the-variants as DecodedTransaction
-use Rattle.rows.specs.Row.{hasKind, hasInterval, rowRefusal, rowAt, rowRefusalAt, decodedRowAt, rowsIn, rowsRefusal}
-use Rattle.rows.specs.Transaction.{transactionRefusal, transactionAt, transactionRefusalAt, decodedTransactionAt, transactionsIn, transactionsRefusal}
-use Rattle.rows.proofs.Answers.{row-inside, row-apart, transaction-inside, transaction-apart}
+use Rattle.rows.specs.Row.{hasKind, hasInterval, rowRefusal, rowAt, rowRefusalAt, rowsIn, rowsRefusal}
+use Rattle.rows.specs.Transaction.{transactionRefusal, transactionAt, transactionRefusalAt, transactionsIn, transactionsRefusal}
 use Rattle.rows.specs.Tested.{Timed, RowTested, TransactionTested}
 
 -- ---- markets
@@ -88,13 +87,6 @@ module _ (participants locations : ℕ) where
 
     pub transaction-at-tested : (i : ℕ) → transactionRefusalAt participants locations s i ≡ 0 → TransactionTested participants locations (transactionAt s i)
     transaction-at-tested i e = transaction-tested (transactionAt s i) (omega arith) e
-
-    -- what is decoded is the row at its place, and has no refusal
-    pub row-decoded : (i : ℕ) (r : Row) → decodedRowAt participants locations s i ≡ DecodedRow.Decoded r → (rowRefusalAt participants locations s i ≡ 0) × (rowAt s i ≡ r)
-    row-decoded i r e = answer-taken DecodedRow.Decoded DecodedRow.Refused row-inside row-apart _ (rowAt s i) r e
-
-    pub transaction-decoded : (i : ℕ) (t : Transaction) → decodedTransactionAt participants locations s i ≡ DecodedTransaction.Decoded t → (transactionRefusalAt participants locations s i ≡ 0) × (transactionAt s i ≡ t)
-    transaction-decoded i t e = answer-taken DecodedTransaction.Decoded DecodedTransaction.Refused transaction-inside transaction-apart _ (transactionAt s i) t e
 
     -- every element of the list
     pub rows-tested : (n : ℕ) → rowsRefusal participants locations s n ≡ 0 → (r : Row) → List·Memᴰ r (rowsIn s n) → RowTested participants locations r

@@ -1,5 +1,5 @@
 -- A row of the exercise file (document 01, "The exercise file", "Charges"): its fields and its order of refusals. Assumes nothing.
-use mathlib.Core.Bool.{Bool, _&&_}
+use mathlib.Core.Bool.{Bool}
 use mathlib.Core.List.{List}
 use Prim.Native.Nat.{ℕ, _*_}
 use lib.Dec.{ltb, leb, eqb}

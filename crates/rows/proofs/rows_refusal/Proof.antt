@@ -1,27 +1,19 @@
 -- `rows::rows_refusal` meets its contract. Assumes nothing.
-use Rattle.rows.proofs.Answers.{row-apart}
-use Rattle.ints.proofs.Turns.{answer-next, answer-first, turn-start}
+use Rattle.rows.proofs.Answers.{row-next, row-first}
+use Rattle.rows.specs.Row.{rowsRefusal}
+use Rattle.ints.proofs.Turns.{turn-start}
 use borrow.Author.Needs.{needs}
-use Rattle.rows.specs.declared.DecodedRow.the-variants.{Decoded, Refused}
-use Rattle.rows.specs.Row.{rowAt, rowRefusalAt, rowNumber}
-use Rattle.ints.specs.Turn.{inTurn}
-use Prim.Native.Nat.{ℕ, _-_, _≤_}
-use mathlib.Core.Path.{_≡_, refl, sym, ap, _∙_}
+use Prim.Native.Nat.{_-_, _≤_}
+use mathlib.Core.Path.{_≡_, sym, ap, _∙_}
 use native.Mathlib.Omega.{arith}
 use Rattle.rows.proofs.rows_refusal.Statement.{statement}
 use Rattle.rows.proofs.rows_refusal.Tie as tie
 
 abbrev Inv-loop : tie.InvT-loop
-Inv-loop participants locations rows n i₀ i = (i ≤ n) × (inTurn (rowRefusalAt participants locations rows) i ≡ 0)
+Inv-loop participants locations rows n i₀ i = (i ≤ n) × (rowsRefusal participants locations rows i ≡ 0)
 
 abbrev μ-loop : tie.MeasureT-loop
 μ-loop participants locations rows n i₀ i = n - i
-
-abbrev start : tie.At-loop Inv-loop μ-loop → tie.Start Inv-loop μ-loop
-start l = l .before .before
-
-abbrev refusals : tie.Start Inv-loop μ-loop → ℕ → ℕ
-refusals s = rowRefusalAt (s .args .participants) (s .args .locations) (s .args .rows .now)
 
 loop-holds : tie.Need-loop-holds Inv-loop μ-loop
 loop-holds c = (search needs, turn-start _)
@@ -41,7 +33,7 @@ row-number-requires c κs = search needs
 returns : tie.Need-returns Inv-loop μ-loop
 returns c = let d = c .before .before .before in
     let l = d .before .before in
-    c .row-number .ensures ∙ answer-first Decoded Refused rowNumber (λ _. refl) (λ _. refl) (refusals (start l)) (rowAt (start l .args .rows .now)) (l .loop .i) (l .loop .inv .1) _ (d .row-at .ensures) row-apart _ _ (c .before .enum-told2 .given .1) (d .before .loop-test .taken)
+    c .row-number .ensures ∙ row-first _ _ _ _ _ (d .row-at .ensures) (l .loop .inv .1) _ _ (c .before .enum-told2 .given .1) (d .before .loop-test .taken)
 
 add-i : tie.Need-add-i Inv-loop μ-loop
 add-i c = search needs
@@ -52,10 +44,12 @@ loop-less c = search needs
 loop-again : tie.Need-loop-again Inv-loop μ-loop
 loop-again c = let d = c .before .before in
     let l = d .before .before in
-    (search needs, answer-next Decoded Refused rowNumber (λ _. refl) (λ _. refl) (refusals (start l)) (rowAt (start l .args .rows .now)) (l .loop .i) (l .loop .inv .1) _ (d .row-at .ensures) _ (c .enum-told .given .1))
+    (search needs, row-next _ _ _ _ _ (d .row-at .ensures) (l .loop .inv .1) _ (c .enum-told .given .1))
 
 returns-2 : tie.Need-returns-2 Inv-loop μ-loop
-returns-2 c = let l = c .before in sym (ap (inTurn (refusals (start l))) (omega arith) ∙ l .loop .inv .1)
+returns-2 c = let l = c .before in
+    let a = l .before .before .args in
+    sym (ap (rowsRefusal (a .participants) (a .locations) (a .rows .now)) (omega arith) ∙ l .loop .inv .1)
 
 pub rows-refusal-spec : {M : Type 1} → statement M
 rows-refusal-spec =
