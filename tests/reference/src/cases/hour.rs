@@ -63,10 +63,10 @@ pub fn draw(turn: usize, random: &mut Random) -> (Vec<u8>, [usize; 4]) {
     let round = turn / 24;
     if turn % 200 == 199 {
         let round = turn / 200;
-        let case = if round % 6 == 5 {
-            large_with_fault(round / 6, random)
+        let case = if round % 2 == 1 {
+            large_with_fault(round / 2, random)
         } else {
-            Case::new(large(round % 6, random))
+            Case::new(large(round / 2 % 5, random))
         };
         return (case.bytes(), case.lists);
     }
