@@ -15,10 +15,10 @@ use Rattle.rows.specs.Transaction.{transactionAt, transactionRefusalAt, 
 
 -- ---- the two cases of an answer hold what they were made of, and are apart
 
-row-inside : (x y : Row) → DecodedRow.Decoded x ≡ DecodedRow.Decoded y → x ≡ y
+pub row-inside : (x y : Row) → DecodedRow.Decoded x ≡ DecodedRow.Decoded y → x ≡ y
 row-inside x y e = cc
 
-row-apart : (x : Row) (k : ℕ) → DecodedRow.Decoded x ≡ DecodedRow.Refused k → ⊥
+pub row-apart : (x : Row) (k : ℕ) → DecodedRow.Decoded x ≡ DecodedRow.Refused k → ⊥
 row-apart x k e = let z : _≡_ {A = ℕ} 0 1 = cc in omega arith
 
 transaction-inside : (x y : Transaction) → DecodedTransaction.Decoded x ≡ DecodedTransaction.Decoded y → x ≡ y
