@@ -6,12 +6,12 @@ use native.Mathlib.Omega.{arith}
 use Rattle.ints.specs.Number.{Within}
 use Rattle.ints.specs.Table.{_at_}
 use Rattle.ints.proofs.Turns.{then-none}
+use Rattle.rows.specs.Tested.{RowTested, TransactionTested}
 use Rattle.rows.specs.declared.Row.{Row}
 use Rattle.rows.specs.declared.Transaction.{Transaction}
-use Rattle.rows.specs.Tested.{RowTested, TransactionTested}
 use Rattle.rows.proofs.Tested.{rows-tested, transactions-tested}
-use Rattle.exercise.specs.Price.{pricesFrom}
 use Rattle.exercise.specs.File.{header, priceCount, pricePart, rowPart, transactionPart, congestionAhead, congestionReal, lossAhead, lossReal, rows, transactions, fromPrices, fileRefusal}
+use Rattle.exercise.specs.Price.{pricesFrom}
 use Rattle.exercise.proofs.Prices.{prices-within}
 use Rattle.exercise.proofs.Whole.{Whole, whole}
 

@@ -8,16 +8,16 @@ use Rattle.ints.proofs.Unique.{unique}
 use Rattle.units.specs.declared.Mills.{Mills}
 use Rattle.exercise.specs.declared.Header.{Header}
 use Rattle.exercise.specs.declared.Places.{Places}
-use Rattle.exercise.proofs.price_at.Reads as price-at
-use Rattle.exercise.proofs.read_prices.Reads as read-prices
-use Rattle.exercise.proofs.prices_refusal.Reads as prices-refusal
-use Rattle.exercise.proofs.interval_prices.Reads as interval-prices
-use Rattle.exercise.proofs.read_header.Reads as read-header
-use Rattle.exercise.proofs.places_of.Reads as places-of
-use Rattle.exercise.proofs.through_length.Reads as through-length
-use Rattle.exercise.proofs.from_prices.Reads as from-prices
 use Rattle.exercise.proofs.check.Reads as check
+use Rattle.exercise.proofs.from_prices.Reads as from-prices
+use Rattle.exercise.proofs.interval_prices.Reads as interval-prices
+use Rattle.exercise.proofs.places_of.Reads as places-of
+use Rattle.exercise.proofs.price_at.Reads as price-at
+use Rattle.exercise.proofs.prices_refusal.Reads as prices-refusal
+use Rattle.exercise.proofs.read_header.Reads as read-header
+use Rattle.exercise.proofs.read_prices.Reads as read-prices
 use Rattle.exercise.proofs.rows_part.Reads as rows-part
+use Rattle.exercise.proofs.through_length.Reads as through-length
 
 pub price-at-unique : (κs : Lfts 1) (a : _) (r s : Mills) (e f : _) → price-at.Post κs a r e → price-at.Post κs a s f → r ≡ s
 price-at-unique κs a r s e f p q = ap (λ (n : ℤ). record { 0 = n }) (unique p q)

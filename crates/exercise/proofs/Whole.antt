@@ -7,9 +7,9 @@ use lib.Dec.{leb, eqb}
 use lib.ListN.{length, length-take, length-drop}
 use borrow.Author.Tests.{leb-true, eqb-true}
 use Rattle.ints.proofs.Refusals.{passed}
+use Rattle.exercise.specs.File.{headerSize, header, Small, placesOf, places, part, headerRefusal, throughLength}
 use Rattle.exercise.specs.declared.Header.{Header}
 use Rattle.exercise.specs.declared.Places.{Places}
-use Rattle.exercise.specs.File.{headerSize, header, Small, placesOf, places, part, headerRefusal, throughLength}
 
 pub small : (file : List ℕ) → Small (header file)
 unfolding header

@@ -9,8 +9,8 @@ use Rattle.ints.specs.Turn.{inTurn}
 use Rattle.rows.specs.Packed.{bytesAt}
 use Rattle.rows.specs.Row.{rowRefusal}
 use Rattle.rows.specs.Transaction.{transactionRefusal}
-use Rattle.exercise.specs.Price.{priceAt, priceRefusal}
 use Rattle.exercise.specs.File.{header, placesOf, headerRefusal, throughLength, fromPrices, fileRefusal, congestionReal, lossAhead, rows}
+use Rattle.exercise.specs.Price.{priceAt, priceRefusal}
 
 abbrev times : ℕ → List ℕ → List ℕ
 times zero s = []

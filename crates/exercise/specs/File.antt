@@ -8,11 +8,11 @@ use lib.ListN.{length, take, drop}
 use Rattle.ints.specs.Refusal.{pick, unless}
 use Rattle.ints.specs.Turn.{_then_}
 use Rattle.rows.specs.Packed.{bytesAt, field}
-use Rattle.exercise.specs.Price.{priceSize, pricesFrom, pricesRefusal}
 use Rattle.rows.specs.Row.{rowSize, rowsIn, rowsRefusal}
 use Rattle.rows.specs.Transaction.{transactionSize, transactionsIn, transactionsRefusal}
 use Rattle.rows.specs.declared.Row.{Row}
 use Rattle.rows.specs.declared.Transaction.{Transaction}
+use Rattle.exercise.specs.Price.{priceSize, pricesFrom, pricesRefusal}
 use Rattle.exercise.specs.declared.Header.{Header}
 use Rattle.exercise.specs.declared.Places.{Places}
 

@@ -69,7 +69,7 @@ pub fn prices_refusal(prices: &[u8], n: usize) -> u32
     0
 }
 
-// Interval k's own stretch of a list of real-time prices.
+// "Each interval's prices are read from their own stretch of the list": interval k's, which starts at k times locations.
 pub fn interval_prices(prices: &[i64], locations: usize, k: usize) -> &[i64]
     requires { ⌜ (k < 12) × (12 * locations ≤ length (now prices)) ⌝ }
     ensures numbers { λ r. ⌜ now r ≡ intervalOf (now (prices .entry)) locations k ⌝ }

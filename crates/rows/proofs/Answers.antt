@@ -4,14 +4,14 @@ use mathlib.Core.List.{List}
 use Prim.Native.Nat.{ℕ, _+_, _<_}
 use native.Mathlib.Omega.{arith}
 use Rattle.ints.proofs.Turns.{answer-next, answer-first, answer-taken}
-use Rattle.rows.specs.declared.Row.{Row}
-use Rattle.rows.specs.declared.Transaction.{Transaction}
+use Rattle.rows.specs.Row.{rowAt, rowRefusalAt, decodedRowAt, rowNumber, rowsRefusal}
+use Rattle.rows.specs.Transaction.{transactionAt, transactionRefusalAt, decodedTransactionAt, transactionNumber, transactionsRefusal}
 use Rattle.rows.specs.declared.DecodedRow.{DecodedRow}
 use Rattle.rows.specs.declared.DecodedRow.the-variants as DecodedRow
 use Rattle.rows.specs.declared.DecodedTransaction.{DecodedTransaction}
 use Rattle.rows.specs.declared.DecodedTransaction.the-variants as DecodedTransaction
-use Rattle.rows.specs.Row.{rowAt, rowRefusalAt, decodedRowAt, rowNumber, rowsRefusal}
-use Rattle.rows.specs.Transaction.{transactionAt, transactionRefusalAt, decodedTransactionAt, transactionNumber, transactionsRefusal}
+use Rattle.rows.specs.declared.Row.{Row}
+use Rattle.rows.specs.declared.Transaction.{Transaction}
 
 -- ---- the two cases of an answer hold what they were made of, and are apart
 

@@ -1,7 +1,7 @@
 -- A row, and a transaction, that has no refusal has passed the tests. Assumes nothing.
 use mathlib.Core.Path.{_≡_, refl, sym, subst}
-use mathlib.Core.Bool.{Bool, true, false}
 use mathlib.Core.Logic.{inl, inr}
+use mathlib.Core.Bool.{Bool, true, false}
 use mathlib.Core.List.{List, List·Memᴰ}
 use Prim.Native.Nat.{ℕ, _<_}
 use native.Mathlib.Omega.{arith}
@@ -11,13 +11,13 @@ use Rattle.ints.specs.Refusal.{pick}
 use Rattle.ints.proofs.Members.{from-tab}
 use Rattle.ints.proofs.Refusals.{passed}
 use Rattle.ints.proofs.Turns.{turn-none}
-use Rattle.rows.specs.declared.Row.{Row}
-use Rattle.rows.specs.declared.Transaction.{Transaction}
+use Rattle.rows.specs.Row.{hasKind, hasInterval, rowRefusal, rowAt, rowRefusalAt, rowsIn, rowsRefusal}
+use Rattle.rows.specs.Tested.{Timed, RowTested, TransactionTested}
+use Rattle.rows.specs.Transaction.{transactionRefusal, transactionAt, transactionRefusalAt, transactionsIn, transactionsRefusal}
 use Rattle.rows.specs.declared.DecodedRow.the-variants as DecodedRow
 use Rattle.rows.specs.declared.DecodedTransaction.the-variants as DecodedTransaction
-use Rattle.rows.specs.Row.{hasKind, hasInterval, rowRefusal, rowAt, rowRefusalAt, rowsIn, rowsRefusal}
-use Rattle.rows.specs.Transaction.{transactionRefusal, transactionAt, transactionRefusalAt, transactionsIn, transactionsRefusal}
-use Rattle.rows.specs.Tested.{Timed, RowTested, TransactionTested}
+use Rattle.rows.specs.declared.Row.{Row}
+use Rattle.rows.specs.declared.Transaction.{Transaction}
 
 -- ---- markets
 
@@ -91,10 +91,10 @@ module _ (participants locations : ℕ) where
     -- every element of the list
     pub rows-tested : (n : ℕ) → rowsRefusal participants locations s n ≡ 0 → (r : Row) → List·Memᴰ r (rowsIn s n) → RowTested participants locations r
     rows-tested n e r m =
-        let at = from-tab (rowAt s) n r m in
-        subst (RowTested participants locations) (sym (at .2)) (row-at-tested (at .0) (turn-none (rowRefusalAt participants locations s) n e (at .0) (at .1)))
+        let place = from-tab (rowAt s) n r m in
+        subst (RowTested participants locations) (sym (place .2)) (row-at-tested (place .0) (turn-none (rowRefusalAt participants locations s) n e (place .0) (place .1)))
 
     pub transactions-tested : (n : ℕ) → transactionsRefusal participants locations s n ≡ 0 → (t : Transaction) → List·Memᴰ t (transactionsIn s n) → TransactionTested participants locations t
     transactions-tested n e t m =
-        let at = from-tab (transactionAt s) n t m in
-        subst (TransactionTested participants locations) (sym (at .2)) (transaction-at-tested (at .0) (turn-none (transactionRefusalAt participants locations s) n e (at .0) (at .1)))
+        let place = from-tab (transactionAt s) n t m in
+        subst (TransactionTested participants locations) (sym (place .2)) (transaction-at-tested (place .0) (turn-none (transactionRefusalAt participants locations s) n e (place .0) (place .1)))

@@ -6,15 +6,15 @@ use contract.Lifetimes.{Lfts}
 use Rattle.ints.proofs.Unique.{unique}
 use Rattle.rows.specs.declared.DecodedRow.{DecodedRow}
 use Rattle.rows.specs.declared.DecodedTransaction.{DecodedTransaction}
-use Rattle.rows.proofs.three_at.Reads as three-at
+use Rattle.rows.proofs.decode_row.Reads as decode-row
+use Rattle.rows.proofs.decode_transaction.Reads as decode-transaction
 use Rattle.rows.proofs.row_at.Reads as row-at
 use Rattle.rows.proofs.row_number.Reads as row-number
 use Rattle.rows.proofs.rows_refusal.Reads as rows-refusal
+use Rattle.rows.proofs.three_at.Reads as three-at
 use Rattle.rows.proofs.transaction_at.Reads as transaction-at
 use Rattle.rows.proofs.transaction_number.Reads as transaction-number
 use Rattle.rows.proofs.transactions_refusal.Reads as transactions-refusal
-use Rattle.rows.proofs.decode_row.Reads as decode-row
-use Rattle.rows.proofs.decode_transaction.Reads as decode-transaction
 
 pub three-at-unique : (κs : Lfts 1) (a : _) (r s : ℕ) (e f : _) → three-at.Post κs a r e → three-at.Post κs a s f → r ≡ s
 three-at-unique κs a r s e f p q = unique (p .0) (q .0)

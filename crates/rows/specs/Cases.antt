@@ -3,10 +3,10 @@ use mathlib.Core.Path.{_≡_, refl}
 use mathlib.Core.List.{List, [], _∷_}
 use Prim.Native.Nat.{ℕ}
 use lib.IntN.{pos, negsuc}
+use Rattle.rows.specs.Alone.{decodedRow, decodedTransaction}
 use Rattle.rows.specs.Packed.{bytesAt}
 use Rattle.rows.specs.Row.{rowRefusal}
 use Rattle.rows.specs.Transaction.{transactionRefusal}
-use Rattle.rows.specs.Alone.{decodedRow, decodedTransaction}
 use Rattle.rows.specs.declared.DecodedRow.the-variants.{Decoded, Refused}
 use Rattle.rows.specs.declared.DecodedTransaction.the-variants as DecodedTransaction
 

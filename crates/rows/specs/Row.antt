@@ -7,9 +7,9 @@ use Rattle.ints.specs.Refusal.{pick, unless}
 use Rattle.ints.specs.Table.{tab}
 use Rattle.ints.specs.Turn.{inTurn, answer}
 use Rattle.rows.specs.Packed.{bytesAt, field}
-use Rattle.rows.specs.declared.Row.{Row}
 use Rattle.rows.specs.declared.DecodedRow.{DecodedRow}
 use Rattle.rows.specs.declared.DecodedRow.the-variants as DecodedRow
+use Rattle.rows.specs.declared.Row.{Row}
 
 -- "Row, 48 bits"
 abbrev pub rowSize : ℕ

@@ -7,9 +7,9 @@ use Rattle.ints.specs.Table.{tab}
 use Rattle.ints.specs.Turn.{inTurn, answer}
 use Rattle.rows.specs.Packed.{bytesAt, field}
 use Rattle.rows.specs.Row.{hasInterval}
-use Rattle.rows.specs.declared.Transaction.{Transaction}
 use Rattle.rows.specs.declared.DecodedTransaction.{DecodedTransaction}
 use Rattle.rows.specs.declared.DecodedTransaction.the-variants as DecodedTransaction
+use Rattle.rows.specs.declared.Transaction.{Transaction}
 
 -- "Transaction, 48 bits"
 abbrev pub transactionSize : ℕ

@@ -1,7 +1,7 @@
 -- `exercise::check` meets its contract. Assumes nothing.
-use Rattle.ints.proofs.Turns.{then-ends, then-follows}
 use mathlib.Core.Path.{_∙_}
 use borrow.Author.Needs.{needs}
+use Rattle.ints.proofs.Turns.{then-ends, then-follows}
 use Rattle.exercise.proofs.check.Statement.{statement}
 use Rattle.exercise.proofs.check.Tie as tie
 

@@ -1,8 +1,8 @@
 -- `exercise::five_at` meets its contract. Assumes nothing.
-use Rattle.rows.proofs.Packed.{one-byte, grouped}
-use native.Mathlib.Omega.{arith}
 use Prim.Native.Nat.{_+_}
+use native.Mathlib.Omega.{arith}
 use borrow.Author.Needs.{needs}
+use Rattle.rows.proofs.Packed.{one-byte, grouped}
 use Rattle.exercise.proofs.five_at.Statement.{statement}
 use Rattle.exercise.proofs.five_at.Tie as tie
 

@@ -1,17 +1,17 @@
 -- `exercise::from_prices` meets its contract. Assumes nothing.
-use Rattle.exercise.proofs.Whole.{Found, found, whole, small-read}
-use Rattle.exercise.specs.File.{priceCount, part, fromPrices}
-use Rattle.rows.specs.Transaction.{transactionsRefusal}
-use Rattle.rows.specs.Row.{rowsRefusal}
-use Rattle.exercise.specs.Price.{pricesRefusal}
-use Rattle.exercise.specs.declared.Places.{Places}
-use Rattle.exercise.specs.declared.Header.{Header}
-use Rattle.ints.proofs.Turns.{then-ends, then-follows}
-use Rattle.ints.specs.Turn.{_then_}
-use native.Mathlib.Omega.{arith}
-use Prim.Native.Nat.{ℕ}
-use mathlib.Core.List.{List}
 use mathlib.Core.Path.{_≡_, ap₂, _∙_}
+use mathlib.Core.List.{List}
+use Prim.Native.Nat.{ℕ}
+use native.Mathlib.Omega.{arith}
+use Rattle.ints.specs.Turn.{_then_}
+use Rattle.ints.proofs.Turns.{then-ends, then-follows}
+use Rattle.rows.specs.Row.{rowsRefusal}
+use Rattle.rows.specs.Transaction.{transactionsRefusal}
+use Rattle.exercise.specs.File.{priceCount, part, fromPrices}
+use Rattle.exercise.specs.Price.{pricesRefusal}
+use Rattle.exercise.specs.declared.Header.{Header}
+use Rattle.exercise.specs.declared.Places.{Places}
+use Rattle.exercise.proofs.Whole.{Found, found, whole, small-read}
 use Rattle.exercise.proofs.from_prices.Statement.{statement}
 use Rattle.exercise.proofs.from_prices.Tie as tie
 
@@ -25,12 +25,12 @@ fromParts h p file =
 abbrev start : tie.After-places-of → tie.Start
 start c = c .before .before .before
 
-at : (c : tie.After-places-of) → Found (start c .args .file .now) (c .before .read-header .result) (c .places-of .result)
-at c = found _ (start c .pre) _ (c .before .read-header .ensures) _ (c .places-of .ensures)
+here : (c : tie.After-places-of) → Found (start c .args .file .now) (c .before .read-header .result) (c .places-of .result)
+here c = found _ (start c .pre) _ (c .before .read-header .ensures) _ (c .places-of .ensures)
 
 order : (c : tie.After-places-of) → fromParts (c .before .read-header .result) (c .places-of .result) (start c .args .file .now) ≡ fromPrices (start c .args .file .now)
 unfolding fromPrices
-order c = ap₂ (λ (h : Header) (p : Places). fromParts h p (start c .args .file .now)) (c .before .read-header .ensures) (at c .same)
+order c = ap₂ (λ (h : Header) (p : Places). fromParts h p (start c .args .file .now)) (c .before .read-header .ensures) (here c .same)
 
 read-header-requires : tie.Need-read-header-requires
 read-header-requires c κs = whole _ (c .before .pre) .begun
@@ -39,34 +39,34 @@ places-of-requires : tie.Need-places-of-requires
 places-of-requires c κs = small-read _ _ (c .read-header .ensures)
 
 sub-prices-refusal : tie.Need-sub-prices-refusal
-sub-prices-refusal c = let f = at c in omega arith
+sub-prices-refusal c = let f = here c in omega arith
 
 part-prices-refusal-start : tie.Need-part-prices-refusal-start
-part-prices-refusal-start c = let f = at c in omega arith
+part-prices-refusal-start c = let f = here c in omega arith
 
 part-prices-refusal-end : tie.Need-part-prices-refusal-end
-part-prices-refusal-end c = let f = at c in omega arith
+part-prices-refusal-end c = let f = here c in omega arith
 
 mul-prices-refusal : tie.Need-mul-prices-refusal
-mul-prices-refusal c = let f = at (c .before .before) in omega arith
+mul-prices-refusal c = let f = here (c .before .before) in omega arith
 
 prices-refusal-requires : tie.Need-prices-refusal-requires
-prices-refusal-requires c κs = let f = at (c .before .before) in omega arith
+prices-refusal-requires c κs = let f = here (c .before .before) in omega arith
 
 returns : tie.Need-returns
 returns c = then-ends _ _ _ (c .if1 .taken) (c .before .prices-refusal .ensures) ∙ order (c .before .before .before .before)
 
 sub-rows-refusal : tie.Need-sub-rows-refusal
-sub-rows-refusal c = let f = at (c .before .before .before .before) in omega arith
+sub-rows-refusal c = let f = here (c .before .before .before .before) in omega arith
 
 part-rows-refusal-start : tie.Need-part-rows-refusal-start
-part-rows-refusal-start c = let f = at (c .before .before .before .before) in omega arith
+part-rows-refusal-start c = let f = here (c .before .before .before .before) in omega arith
 
 part-rows-refusal-end : tie.Need-part-rows-refusal-end
-part-rows-refusal-end c = let f = at (c .before .before .before .before) in omega arith
+part-rows-refusal-end c = let f = here (c .before .before .before .before) in omega arith
 
 rows-refusal-requires : tie.Need-rows-refusal-requires
-rows-refusal-requires c κs = let f = at (c .before .before .before .before .before) in omega arith
+rows-refusal-requires c κs = let f = here (c .before .before .before .before .before) in omega arith
 
 returns-2 : tie.Need-returns-2
 returns-2 c = let b = c .before .before .before in
@@ -75,16 +75,16 @@ returns-2 c = let b = c .before .before .before in
     ∙ order (b .before .before .before .before)
 
 sub-transactions-refusal : tie.Need-sub-transactions-refusal
-sub-transactions-refusal c = let f = at (c .before .before .before .before .before .before .before) in omega arith
+sub-transactions-refusal c = let f = here (c .before .before .before .before .before .before .before) in omega arith
 
 part-transactions-refusal-start : tie.Need-part-transactions-refusal-start
-part-transactions-refusal-start c = let f = at (c .before .before .before .before .before .before .before) in omega arith
+part-transactions-refusal-start c = let f = here (c .before .before .before .before .before .before .before) in omega arith
 
 part-transactions-refusal-end : tie.Need-part-transactions-refusal-end
-part-transactions-refusal-end c = let f = at (c .before .before .before .before .before .before .before) in omega arith
+part-transactions-refusal-end c = let f = here (c .before .before .before .before .before .before .before) in omega arith
 
 transactions-refusal-requires : tie.Need-transactions-refusal-requires
-transactions-refusal-requires c κs = let f = at (c .before .before .before .before .before .before .before .before) in omega arith
+transactions-refusal-requires c κs = let f = here (c .before .before .before .before .before .before .before .before) in omega arith
 
 returns-3 : tie.Need-returns-3
 returns-3 c = let d = c .before .before in

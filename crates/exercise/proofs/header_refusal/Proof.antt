@@ -1,7 +1,7 @@
 -- `exercise::header_refusal` meets its contract. Assumes nothing.
-use Rattle.exercise.specs.File.{headerRefusal}
-use borrow.Author.Tests.{eq-eqb, ne-eqb, le-leb, lt-leb}
 use borrow.Author.Needs.{needs}
+use borrow.Author.Tests.{eq-eqb, ne-eqb, le-leb, lt-leb}
+use Rattle.exercise.specs.File.{headerRefusal}
 use Rattle.exercise.proofs.header_refusal.Statement.{statement}
 use Rattle.exercise.proofs.header_refusal.Tie as tie
 

@@ -1,10 +1,10 @@
 -- `exercise::interval_prices` meets its contract. Assumes nothing.
-use Rattle.exercise.proofs.Prices.{room}
-use lib.ListN.{take, drop}
-use native.Mathlib.Omega.{arith}
-use Prim.Native.Nat.{ℕ, _+_, _*_, _-_, _≤_}
 use mathlib.Core.Path.{_≡_, refl, ap}
+use Prim.Native.Nat.{ℕ, _+_, _*_, _-_, _≤_}
+use native.Mathlib.Omega.{arith}
+use lib.ListN.{take, drop}
 use borrow.Author.Needs.{needs}
+use Rattle.exercise.proofs.Prices.{room}
 use Rattle.exercise.proofs.interval_prices.Statement.{statement}
 use Rattle.exercise.proofs.interval_prices.Tie as tie
 

@@ -1,7 +1,7 @@
 -- `exercise::places_of` meets its contract. Assumes nothing.
-use Rattle.exercise.specs.File.{placesOf}
 use mathlib.Core.Path.{refl}
 use borrow.Author.Needs.{needs}
+use Rattle.exercise.specs.File.{placesOf}
 use Rattle.exercise.proofs.places_of.Statement.{statement}
 use Rattle.exercise.proofs.places_of.Tie as tie
 

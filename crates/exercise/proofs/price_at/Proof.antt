@@ -1,8 +1,8 @@
 -- `exercise::price_at` meets its contract. Assumes nothing.
-use Rattle.ints.specs.Twos.{twos}
 use mathlib.Core.Path.{ap, _∙_}
 use mir.Facts.{toZ-ofZ}
 use borrow.Author.Needs.{sfits-of, needs}
+use Rattle.ints.specs.Twos.{twos}
 use Rattle.exercise.proofs.price_at.Statement.{statement}
 use Rattle.exercise.proofs.price_at.Tie as tie
 

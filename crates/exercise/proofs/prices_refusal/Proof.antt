@@ -1,17 +1,17 @@
 -- `exercise::prices_refusal` meets its contract. Assumes nothing.
-use Rattle.ints.specs.Number.{between}
+use mathlib.Core.Path.{_≡_, sym, ap, _∙_}
+use mathlib.Core.Bool.{Bool, true, false}
+use Prim.Native.Nat.{_-_, _≤_}
+use native.Mathlib.Omega.{arith}
 use lib.IntN.{ℤ, pos, negℤ}
-use mir.Facts.{toZ-ofZ}
 use mir.Syntax.{w64}
+use mir.Facts.{toZ-ofZ}
 use borrow.Author.Needs.{needs, sfits-of}
 use borrow.Author.Tests.{not-true, not-false}
+use Rattle.ints.specs.Number.{between}
 use Rattle.ints.specs.Refusal.{unless}
-use mathlib.Core.Bool.{Bool, true, false}
-use Rattle.exercise.specs.Price.{priceAt, priceRefusal, pricesRefusal}
 use Rattle.ints.proofs.Turns.{turn-start, turn-next, turn-first}
-use Prim.Native.Nat.{_-_, _≤_}
-use mathlib.Core.Path.{_≡_, sym, ap, _∙_}
-use native.Mathlib.Omega.{arith}
+use Rattle.exercise.specs.Price.{priceAt, priceRefusal, pricesRefusal}
 use Rattle.exercise.proofs.prices_refusal.Statement.{statement}
 use Rattle.exercise.proofs.prices_refusal.Tie as tie
 

@@ -1,7 +1,7 @@
 -- `exercise::read_header` meets its contract. Assumes nothing.
-use Rattle.exercise.specs.File.{headerOf, header}
 use mathlib.Core.Path.{ap, _∙_}
 use borrow.Author.Needs.{needs}
+use Rattle.exercise.specs.File.{headerOf, header}
 use Rattle.exercise.proofs.read_header.Statement.{statement}
 use Rattle.exercise.proofs.read_header.Tie as tie
 

@@ -1,15 +1,15 @@
 -- `exercise::read_prices` meets its contract. Assumes nothing.
-use lib.IntN.{ℤ}
-use Rattle.exercise.specs.Price.{priceAt, pricesFrom}
-use Rattle.ints.proofs.Tables.{tab-none, tab-store, tab-done}
-use Rattle.ints.specs.Table.{tab}
-use mir.Facts.{toZ-ofZ}
-use mir.Syntax.{w64}
-use lib.ListN.{length, take, length-set}
-use Prim.Native.Nat.{ℕ, _+_, _-_, _≤_}
 use mathlib.Core.Path.{_≡_, ap, _∙_}
-use borrow.Author.Needs.{needs, sfits-of}
+use Prim.Native.Nat.{ℕ, _+_, _-_, _≤_}
 use native.Mathlib.Omega.{arith}
+use lib.IntN.{ℤ}
+use lib.ListN.{length, take, length-set}
+use mir.Syntax.{w64}
+use mir.Facts.{toZ-ofZ}
+use borrow.Author.Needs.{needs, sfits-of}
+use Rattle.ints.specs.Table.{tab}
+use Rattle.ints.proofs.Tables.{tab-none, tab-store, tab-done}
+use Rattle.exercise.specs.Price.{priceAt, pricesFrom}
 use Rattle.exercise.proofs.read_prices.Statement.{statement}
 use Rattle.exercise.proofs.read_prices.Tie as tie
 

@@ -1,20 +1,20 @@
 -- `exercise::rows_part` meets its contract. Assumes nothing.
-use Rattle.exercise.proofs.Reader.{stretch-accepted, stretch-refused}
+use mathlib.Core.Path.{_≡_, refl, sym, ap, _∙_}
+use native.Mathlib.Omega.{arith}
+use borrow.Author.Needs.{needs}
+use Rattle.ints.proofs.Turns.{then-none}
 use Rattle.exercise.specs.File.{throughLength, part}
 use Rattle.exercise.specs.declared.Places.{Places}
+use Rattle.exercise.proofs.Reader.{stretch-accepted, stretch-refused}
 use Rattle.exercise.proofs.Whole.{Found, found, whole, small-read}
-use Rattle.ints.proofs.Turns.{then-none}
-use native.Mathlib.Omega.{arith}
-use mathlib.Core.Path.{_≡_, refl, sym, ap, _∙_}
-use borrow.Author.Needs.{needs}
 use Rattle.exercise.proofs.rows_part.Statement.{statement}
 use Rattle.exercise.proofs.rows_part.Tie as tie
 
 accepted : (c : tie.Else1) → throughLength (c .before .before .before .args .file .now) ≡ 0
 accepted c = then-none _ _ (sym (c .before .check .ensures) ∙ c .if1 .left) .0
 
-at : (c : tie.After-places-of) → Found (c .before .before .before .before .before .args .file .now) (c .before .read-header .result) (c .places-of .result)
-at c = found _ (accepted (c .before .before)) _ (c .before .read-header .ensures) _ (c .places-of .ensures)
+here : (c : tie.After-places-of) → Found (c .before .before .before .before .before .args .file .now) (c .before .read-header .result) (c .places-of .result)
+here c = found _ (accepted (c .before .before)) _ (c .before .read-header .ensures) _ (c .places-of .ensures)
 
 check-requires : tie.Need-check-requires
 check-requires c κs = search needs
@@ -38,19 +38,19 @@ places-of-requires : tie.Need-places-of-requires
 places-of-requires c κs = small-read _ _ (c .read-header .ensures)
 
 sub-result-2 : tie.Need-sub-result-2
-sub-result-2 c = let f = at c in omega arith
+sub-result-2 c = let f = here c in omega arith
 
 part-result-start-2 : tie.Need-part-result-start-2
-part-result-start-2 c = let f = at c in omega arith
+part-result-start-2 c = let f = here c in omega arith
 
 part-result-end-2 : tie.Need-part-result-end-2
-part-result-end-2 c = let f = at c in omega arith
+part-result-end-2 c = let f = here c in omega arith
 
 returns-2 : tie.Need-returns-2
 returns-2 c = let p = c .before in
     let file = p .before .before .before .before .before .args .file .now in
     let s = stretch-accepted file (sym (p .before .before .before .check .ensures) ∙ p .before .before .if1 .left) in
-    let f = at p in
+    let f = here p in
     (ap (λ (q : Places). part (q .rows) (q .transactions) file) (f .same) ∙ sym (s .0), (refl, omega (arith, s .1, ap (λ (q : Places). q .rows) (f .same))))
 
 pub rows-part-spec : {M : Type 1} → statement M

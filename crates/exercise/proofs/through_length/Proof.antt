@@ -1,11 +1,11 @@
 -- `exercise::through_length` meets its contract. Assumes nothing.
-use Rattle.exercise.proofs.Whole.{small-read}
+use mathlib.Core.Path.{ap, _∙_}
+use lib.ListN.{length}
+use borrow.Author.Needs.{needs}
+use borrow.Author.Tests.{le-leb, lt-leb}
 use Rattle.exercise.specs.File.{headerRefusal, throughLength}
 use Rattle.exercise.specs.declared.Header.{Header}
-use borrow.Author.Tests.{le-leb, lt-leb}
-use lib.ListN.{length}
-use mathlib.Core.Path.{ap, _∙_}
-use borrow.Author.Needs.{needs}
+use Rattle.exercise.proofs.Whole.{small-read}
 use Rattle.exercise.proofs.through_length.Statement.{statement}
 use Rattle.exercise.proofs.through_length.Tie as tie
 

@@ -1,16 +1,16 @@
 -- `rows::decode_row` meets its contract. Assumes nothing.
-use Rattle.rows.proofs.Given.{Given, given, cast}
+use mathlib.Core.Path.{_≡_, sym, ap, ap₂, _∙_}
+use Prim.Native.Nat.{ℕ}
+use native.Mathlib.Omega.{arith}
+use lib.IntN.{ℤ, natAbs}
+use lib.ListN.{length}
+use mir.Facts.{toZ-ofZ}
+use borrow.Author.Needs.{needs}
+use Rattle.ints.proofs.Turns.{then-ends, then-follows, answer-refused}
 use Rattle.rows.specs.Alone.{givenRefusal}
 use Rattle.rows.specs.Row.{rowAt, rowAnswer, decodedRowAt}
 use Rattle.rows.specs.declared.DecodedRow.the-variants.{Decoded, Refused}
-use Rattle.ints.proofs.Turns.{then-ends, then-follows, answer-refused}
-use mir.Facts.{toZ-ofZ}
-use native.Mathlib.Omega.{arith}
-use Prim.Native.Nat.{ℕ}
-use lib.ListN.{length}
-use lib.IntN.{ℤ, natAbs}
-use mathlib.Core.Path.{_≡_, sym, ap, ap₂, _∙_}
-use borrow.Author.Needs.{needs}
+use Rattle.rows.proofs.Given.{Given, given, cast}
 use Rattle.rows.proofs.decode_row.Statement.{statement}
 use Rattle.rows.proofs.decode_row.Tie as tie
 

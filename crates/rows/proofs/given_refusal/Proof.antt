@@ -1,11 +1,11 @@
 -- `rows::given_refusal` meets its contract. Assumes nothing.
-use Rattle.ints.specs.Number.{between}
-use lib.IntN.{pos}
-use mathlib.Core.Bool.{true}
 use mathlib.Core.Path.{_≡_, sym, ap, _∙_}
-use borrow.Author.Tests.{eq-eqb, ne-eqb, not-true, not-false}
+use mathlib.Core.Bool.{true}
+use lib.IntN.{pos}
 use mir.Facts.{toZ-ofZ}
 use borrow.Author.Needs.{needs}
+use borrow.Author.Tests.{eq-eqb, ne-eqb, not-true, not-false}
+use Rattle.ints.specs.Number.{between}
 use Rattle.rows.proofs.given_refusal.Statement.{statement}
 use Rattle.rows.proofs.given_refusal.Tie as tie
 

@@ -1,11 +1,11 @@
 -- `rows::row_at` meets its contract. Assumes nothing.
-use Rattle.rows.specs.declared.Row.{Row}
 use mathlib.Core.Path.{ap₂, _≡_, sym, ap, _∙_}
+use Prim.Native.Nat.{ℕ}
+use borrow.Author.Needs.{needs}
 use Rattle.ints.proofs.Turns.{answer-refused, answer-accepted}
 use Rattle.rows.specs.Row.{rowOf, rowAt, rowSpare, rowRefusal, rowRefusalAt}
 use Rattle.rows.specs.declared.DecodedRow.the-variants.{Decoded, Refused}
-use Prim.Native.Nat.{ℕ}
-use borrow.Author.Needs.{needs}
+use Rattle.rows.specs.declared.Row.{Row}
 use Rattle.rows.proofs.row_at.Statement.{statement}
 use Rattle.rows.proofs.row_at.Tie as tie
 

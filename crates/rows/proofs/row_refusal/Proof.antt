@@ -1,9 +1,9 @@
 -- `rows::row_refusal` meets its contract. Assumes nothing.
 use mathlib.Core.Path.{_≡_, sym, _∙_}
 use mathlib.Core.Bool.{true}
+use borrow.Author.Needs.{needs}
 use borrow.Author.Tests.{eq-eqb, ne-eqb, lt-ltb, le-ltb, le-leb, lt-leb, not-true, not-false}
 use Rattle.rows.specs.Row.{hasKind, hasInterval, rowRefusal}
-use borrow.Author.Needs.{needs}
 use Rattle.rows.proofs.row_refusal.Statement.{statement}
 use Rattle.rows.proofs.row_refusal.Tie as tie
 

@@ -1,11 +1,11 @@
 -- `rows::rows_refusal` meets its contract. Assumes nothing.
-use Rattle.rows.proofs.Answers.{row-next, row-first}
-use Rattle.rows.specs.Row.{rowsRefusal}
-use Rattle.ints.proofs.Turns.{turn-start}
-use borrow.Author.Needs.{needs}
-use Prim.Native.Nat.{_-_, _≤_}
 use mathlib.Core.Path.{_≡_, sym, ap, _∙_}
+use Prim.Native.Nat.{_-_, _≤_}
 use native.Mathlib.Omega.{arith}
+use borrow.Author.Needs.{needs}
+use Rattle.ints.proofs.Turns.{turn-start}
+use Rattle.rows.specs.Row.{rowsRefusal}
+use Rattle.rows.proofs.Answers.{row-next, row-first}
 use Rattle.rows.proofs.rows_refusal.Statement.{statement}
 use Rattle.rows.proofs.rows_refusal.Tie as tie
 

@@ -1,7 +1,7 @@
 -- `rows::six_at` meets its contract. Assumes nothing.
-use Rattle.rows.proofs.Packed.{grouped}
 use native.Mathlib.Omega.{arith}
 use borrow.Author.Needs.{needs}
+use Rattle.rows.proofs.Packed.{grouped}
 use Rattle.rows.proofs.six_at.Statement.{statement}
 use Rattle.rows.proofs.six_at.Tie as tie
 

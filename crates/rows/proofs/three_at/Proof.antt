@@ -1,8 +1,8 @@
 -- `rows::three_at` meets its contract. Assumes nothing.
-use Rattle.rows.proofs.Packed.{one-byte, grouped}
 use Prim.Native.Nat.{_+_}
 use native.Mathlib.Omega.{arith}
 use borrow.Author.Needs.{needs}
+use Rattle.rows.proofs.Packed.{one-byte, grouped}
 use Rattle.rows.proofs.three_at.Statement.{statement}
 use Rattle.rows.proofs.three_at.Tie as tie
 

@@ -1,9 +1,9 @@
 -- `rows::transaction_at` meets its contract. Assumes nothing.
+use mathlib.Core.Path.{_≡_, sym, ap, _∙_}
+use borrow.Author.Needs.{needs}
 use Rattle.ints.proofs.Turns.{answer-refused, answer-accepted}
 use Rattle.rows.specs.Transaction.{transactionOf, transactionAt, transactionRefusal, transactionRefusalAt}
 use Rattle.rows.specs.declared.DecodedTransaction.the-variants.{Decoded, Refused}
-use mathlib.Core.Path.{_≡_, sym, ap, _∙_}
-use borrow.Author.Needs.{needs}
 use Rattle.rows.proofs.transaction_at.Statement.{statement}
 use Rattle.rows.proofs.transaction_at.Tie as tie
 

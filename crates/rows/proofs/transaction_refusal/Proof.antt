@@ -1,10 +1,10 @@
 -- `rows::transaction_refusal` meets its contract. Assumes nothing.
 use mathlib.Core.Path.{_≡_, sym, _∙_}
 use mathlib.Core.Bool.{true}
-use borrow.Author.Tests.{lt-ltb, le-ltb, le-leb, lt-leb, not-true, not-false}
-use Rattle.rows.specs.Transaction.{transactionRefusal}
-use Rattle.rows.specs.Row.{hasInterval}
 use borrow.Author.Needs.{needs}
+use borrow.Author.Tests.{lt-ltb, le-ltb, le-leb, lt-leb, not-true, not-false}
+use Rattle.rows.specs.Row.{hasInterval}
+use Rattle.rows.specs.Transaction.{transactionRefusal}
 use Rattle.rows.proofs.transaction_refusal.Statement.{statement}
 use Rattle.rows.proofs.transaction_refusal.Tie as tie
 

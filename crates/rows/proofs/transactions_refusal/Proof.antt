@@ -1,11 +1,11 @@
 -- `rows::transactions_refusal` meets its contract. Assumes nothing.
-use Rattle.rows.proofs.Answers.{transaction-next, transaction-first}
-use Rattle.rows.specs.Transaction.{transactionsRefusal}
-use Rattle.ints.proofs.Turns.{turn-start}
-use borrow.Author.Needs.{needs}
-use Prim.Native.Nat.{_-_, _≤_}
 use mathlib.Core.Path.{_≡_, sym, ap, _∙_}
+use Prim.Native.Nat.{_-_, _≤_}
 use native.Mathlib.Omega.{arith}
+use borrow.Author.Needs.{needs}
+use Rattle.ints.proofs.Turns.{turn-start}
+use Rattle.rows.specs.Transaction.{transactionsRefusal}
+use Rattle.rows.proofs.Answers.{transaction-next, transaction-first}
 use Rattle.rows.proofs.transactions_refusal.Statement.{statement}
 use Rattle.rows.proofs.transactions_refusal.Tie as tie
 
