@@ -12,8 +12,8 @@
 
 /*
  * Decodes one row, given the counts of participants and locations. `fields`
- * takes six numbers: market, kind, interval, participant, location, kW. It is
- * written only where the answer is 0.
+ * takes six numbers: market, kind, interval, participant, location, kW; it is
+ * written only where the answer is 0. 1 also answers a list of other length.
  */
 uint32_t probe_row(int64_t participants, int64_t locations,
                    const uint8_t *row, size_t row_len,
@@ -23,10 +23,9 @@ uint32_t probe_row(int64_t participants, int64_t locations,
 uint32_t probe_check(const uint8_t *file, size_t file_len);
 
 /*
- * Where the stretch of rows begins in the file, 0 for an empty one, and how
- * many bytes it has.
+ * How many bytes the stretch of rows has. `rows` takes a copy of it where it
+ * has that length, and is left as it was otherwise.
  */
-uint64_t probe_rows_start(const uint8_t *file, size_t file_len);
-uint64_t probe_rows_length(const uint8_t *file, size_t file_len);
+uint64_t probe_rows(const uint8_t *file, size_t file_len, uint8_t *rows, size_t rows_len);
 
 #endif

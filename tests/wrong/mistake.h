@@ -19,7 +19,8 @@ enum {
     /* of a row, the check and the reader */
     RANGE_BEFORE_IDENTITY,
     TRANSACTIONS_UNTESTED,
-    STRETCH_OF_REFUSED
+    STRETCH_OF_REFUSED,
+    STRETCH_EARLY
 };
 
 #endif

@@ -306,6 +306,14 @@ mod tests {
     }
 
     #[test]
+    fn example() {
+        let file = include_bytes!("../../../examples/document-01.exercise");
+        assert_eq!(check(file), 0);
+        assert_eq!(rows_stretch(file), (161, 18));
+        assert_eq!(file[161..], unhex("800010186a009004000d6d80a004100c3500"));
+    }
+
+    #[test]
     fn stretch() {
         let mut file = unhex("0000010000");
         file.resize(5 + 78, 0);

@@ -7,8 +7,6 @@ use native.Mathlib.Omega.{arith}
 use lib.ListN.{length, getD, take, set, length-set}
 use lib.Seq.{take-all, take-suc, take-suc-set}
 use borrow.Author.Needs.{needs}
-use Rattle.probe.proofs.copy.Lts as lts
-use Rattle.probe.proofs.copy.Reads as reads
 use Rattle.probe.proofs.copy.Statement.{statement}
 use Rattle.probe.proofs.copy.Tie as tie
 
@@ -37,13 +35,15 @@ loop-again : tie.Need-loop-again Inv-loop μ-loop
 loop-again c = let l = c .before .before in
     let from = l .before .args .from .now in
     let i = l .loop .i in
-    let v = getD from i 0 in
-    (search needs, simp length-set (l .loop .inv .1),
-    ap (λ (k : ℕ). take k (set (l .loop .to) i v)) (add-one i)
-    ∙ take-suc-set (l .loop .to) i v (search needs)
-    ∙ ap (λ (t : List ℕ). t ++ (v ∷ [])) (l .loop .inv .2)
-    ∙ sym (take-suc from i 0 (search needs))
-    ∙ ap (λ (k : ℕ). take k from) (sym (add-one i)))
+    let v = getD from i 0 in (
+      search needs,
+      simp length-set (l .loop .inv .1),
+      ap (λ (k : ℕ). take k (set (l .loop .to) i v)) (add-one i)
+          ∙ take-suc-set (l .loop .to) i v (search needs)
+          ∙ ap (λ (t : List ℕ). t ++ (v ∷ [])) (l .loop .inv .2)
+          ∙ sym (take-suc from i 0 (search needs))
+          ∙ ap (λ (k : ℕ). take k from) (sym (add-one i)),
+    )
 
 same-length : tie.Need-same-length Inv-loop μ-loop
 same-length c = search needs

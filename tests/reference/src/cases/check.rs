@@ -5,13 +5,14 @@ use crate::exercise::{check, read_header, rows_stretch, HEADER_BYTES, ROW_BYTES}
 use crate::numbers::hex;
 use crate::random::Random;
 
-pub const HEADER: &str = "file\tnumber\trows start\trows length";
+pub const HEADER: &str = "file\tnumber\trows";
 
 /// The case of a turn, as a line.
 pub fn line(turn: usize, random: &mut Random) -> String {
     let file = draw(turn, random);
     let (start, len) = rows_stretch(&file);
-    format!("{}\t{}\t{start}\t{len}", hex(&file), check(&file))
+    let rows = &file[start..start + len];
+    format!("{}\t{}\t{}", hex(&file), check(&file), hex(rows))
 }
 
 /// The file of a turn.

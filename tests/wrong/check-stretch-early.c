@@ -1,0 +1,3 @@
+/* The reader hands back the rows from one byte early on. */
+#define MISTAKE STRETCH_EARLY
+#include "check.h"
