@@ -8,3 +8,5 @@ pub mod Counts
 pub mod Tables
 pub mod Refusals
 pub mod Unique
+pub mod Orders
+pub mod Eachs

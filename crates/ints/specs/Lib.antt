@@ -3,3 +3,5 @@ pub mod Sum
 pub mod Table
 pub mod Refusal
 pub mod Twos
+pub mod Order
+pub mod Each

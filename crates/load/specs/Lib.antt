@@ -1,0 +1,4 @@
+pub mod Load
+pub mod Order
+pub mod Table
+pub mod Given
