@@ -63,8 +63,8 @@ module _ (buses : ℕ) (areaParts contracts : List ℤ) where
 -- ---- step 3
 
 -- what remains at a bus "is split over the participants by tranches won .. With no tranche at all it stays with the distributor": participant p's part of it
-unfoldable pub auctioned : ℤ → List ℤ → ℤ → ℕ → ℤ
-auctioned distributor tranches remaining p = pick (eqb (total tranches) 0) (only (eqb (natAbs distributor) p) remaining) (parts remaining tranches at p)
+unfoldable pub auctioned : ℕ → List ℤ → ℤ → ℕ → ℤ
+auctioned distributor tranches remaining p = pick (eqb (total tranches) 0) (only (eqb distributor p) remaining) (parts remaining tranches at p)
 
 -- ---- the three together
 
@@ -106,7 +106,7 @@ module _ (d : Given) where
   rest b = busLoad b -ℤ contracted buses (d .areaParts) (d .contracts) b
 
   abbrev pub assigned : ℕ → ℕ → ℤ
-  assigned p b = contractLoad buses (d .areaParts) (d .contracts) p b +ℤ auctioned (d .distributor) (d .tranches) (rest b) p
+  assigned p b = contractLoad buses (d .areaParts) (d .contracts) p b +ℤ auctioned (natAbs (d .distributor)) (d .tranches) (rest b) p
 
   -- "The result is kW for each of 64 participants, 0 to 63, at each bus, participant by participant."
   unfoldable pub assignment : List ℤ

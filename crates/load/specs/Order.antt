@@ -12,25 +12,29 @@ use Rattle.ints.specs.Each.{allTo}
 use Rattle.ints.specs.Number.{between}
 use Rattle.ints.specs.Order.{_then_}
 use Rattle.ints.specs.Refusal.{unless, lent}
-use Rattle.ints.specs.Table.{_at_, all}
+use Rattle.ints.specs.Table.{all}
 use Rattle.split.specs.Split.{total}
 use Rattle.load.specs.Load.{isMetered, meteredLoad, supplier, area, kw, count, partsOf, contracted, Given, buses, busLoad, assignment}
 
--- 1: "a count is beyond its size, or a list has the wrong length" ("Units and sizes": "1 to 64 buses, 0 to 16 areas, 0 to 256 contracts,
--- 0 to 64 tie meters, 0 to 64 generators"; "The tranche list has 64 numbers"). n is the length of the list lent for the result
-unfoldable pub lengths : List ℤ → List ℤ → List ℤ → ℤ → List ℤ → List ℤ → List ℤ → ℕ → ℕ
-lengths loads imports generation areas areaParts contracts tranches n =
+-- 1: "a count is beyond its size" ("Units and sizes": "for load 1 to 64 buses, 0 to 16 areas, 0 to 256 contracts, 0 to 64 tie meters, 0 to 64 generators")
+unfoldable pub counts : List ℤ → List ℤ → List ℤ → ℤ → List ℤ → ℕ
+counts loads imports generation areas contracts =
     unless (leb 1 (length loads)) 1
     (unless (leb (length loads) 64) 1
+    (unless (between (pos 0) (pos 16) areas) 1
+    (unless (leb (count contracts) 256) 1
     (unless (leb (length imports) 64) 1
     (unless (leb (length generation) 64) 1
-    (unless (between (pos 0) (pos 16) areas) 1
-    (unless (eqb (length areaParts) (natAbs areas * length loads)) 1
+    0)))))
+
+-- 1: "or a list has the wrong length" ("The tranche list has 64 numbers"). n is the length of the list lent for the result
+unfoldable pub lengths : List ℤ → ℤ → List ℤ → List ℤ → List ℤ → ℕ → ℕ
+lengths loads areas areaParts contracts tranches n =
+    unless (eqb (length areaParts) (natAbs areas * length loads)) 1
     (unless (eqb (length contracts % 3) 0) 1
-    (unless (leb (count contracts) 256) 1
     (unless (eqb (length tranches) 64) 1
     (unless (eqb n (64 * length loads)) 1
-    0)))))))))
+    0)))
 
 -- 2: "a number is outside its range"; "A number that stands for a choice (as metered or not) and names none gets 2, first among the ranges"
 unfoldable pub ranges : ℤ → List ℤ → List ℤ → List ℤ → List ℤ → List ℤ → List ℤ → ℕ
@@ -73,7 +77,8 @@ module _ (d : Given) where
   -- the tests of what is given, 1 to 5
   abbrev pub tests : ℕ → ℕ
   tests n =
-      lengths (d .loads) (d .imports) (d .generation) (d .areas) (d .areaParts) (d .contracts) (d .tranches) n
+      counts (d .loads) (d .imports) (d .generation) (d .areas) (d .contracts)
+      then lengths (d .loads) (d .areas) (d .areaParts) (d .contracts) (d .tranches) n
       then ranges (d .metered) (d .loads) (d .imports) (d .generation) (d .areaParts) (d .contracts) (d .tranches)
       then identities (d .distributor) (d .areas) (d .contracts)
       then areaTotals (buses d) (d .areas) (d .areaParts)

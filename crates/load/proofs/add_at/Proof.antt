@@ -1,3 +1,4 @@
+-- `load::add_at` meets its contract. Assumes nothing.
 use Rattle.ints.proofs.Sizes.{w-add, w-fits, w-read}
 use Rattle.ints.specs.Table.{_at_}
 use mir.Facts.{toZ-ofZ}
@@ -9,43 +10,32 @@ use mathlib.Core.Path.{_≡_, sym, ap, ap₂, _∙_, subst}
 use borrow.Author.Needs.{needs}
 use Rattle.load.proofs.add_at.Statement.{statement}
 use Rattle.load.proofs.add_at.Tie as tie
-use Rattle.load.proofs.add_at.Reads as reads
-use Rattle.load.proofs.add_at.Lts as lts
 
--- PRE
 -- the two numbers as they are read, and their sum
 summands : (c : tie.Start) → toZ w64 (ofZ w64 (c .args .table .now at c .args .k)) +ℤ toZ w64 (ofZ w64 (c .args .z)) ≡ c .args .table .now at c .args .k +ℤ c .args .z
 summands c = ap₂ _+ℤ_ (w-read (c .pre .1) tt) (w-read (c .pre .2) tt)
 
 total : (c : tie.Start) → SFits w64 (c .args .table .now at c .args .k +ℤ c .args .z)
 total c = w-fits (w-add (c .pre .1) (c .pre .2)) tt
--- END
 
--- src/lib.rt:78:16
 mul-table : tie.Need-mul-table
 mul-table c = search needs
 
--- src/lib.rt:78:16
 slice-copy-out-table : tie.Need-slice-copy-out-table
 slice-copy-out-table c = search needs
 
--- src/lib.rt:78:16
 add-table : tie.Need-add-table
 add-table c = subst (SFits w64) (sym (summands (c .before))) (total (c .before))
 
--- src/lib.rt:78:5
 mul-t8 : tie.Need-mul-t8
 mul-t8 c = search needs
 
--- src/lib.rt:78:5
 slice-set-from-table : tie.Need-slice-set-from-table
 slice-set-from-table c = search needs
 
--- src/lib.rt:74:1
 same-length : tie.Need-same-length
 same-length c = search needs
 
--- src/lib.rt:74:1
 returns : tie.Need-returns
 returns c = ap (set (c .before .args .table .now) (c .before .args .k)) (ap (λ (z : ℤ). toZ w64 (ofZ w64 z)) (summands (c .before)) ∙ toZ-ofZ (total (c .before)))
 

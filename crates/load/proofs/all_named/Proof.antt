@@ -1,3 +1,4 @@
+-- `load::all_named` meets its contract. Assumes nothing.
 use Rattle.ints.specs.Number.{Within}
 use lib.IntN.{ℤ}
 use mathlib.Core.Path.{_≡_, sym, ap, _∙_, subst}
@@ -8,18 +9,13 @@ use Rattle.ints.specs.Each.{allTo}
 use mir.Facts.{toZ-ofZ}
 use mir.Val.{toZ, ofZ}
 use mir.Syntax.{w64}
-use lib.ListN.{length}
 use native.Mathlib.Omega.{arith}
 use mathlib.Core.Bool.{Bool, true}
-use mathlib.Core.Path.{_≡_, sym, ap, _∙_}
-use Prim.Native.Nat.{ℕ, _+_, _-_, _*_, _/_, _≤_}
+use Prim.Native.Nat.{ℕ, _-_, _≤_}
 use borrow.Author.Tests.{not-true, not-false}
 use borrow.Author.Needs.{needs}
 use Rattle.load.proofs.all_named.Statement.{statement}
 use Rattle.load.proofs.all_named.Tie as tie
-use Rattle.load.proofs.all_named.Reads as reads
-use Rattle.load.proofs.all_named.Lts as lts
-use Rattle.load.proofs.is_named.Reads as is-named-reads
 
 abbrev Inv-loop : tie.InvT-loop
 Inv-loop contracts areas n j₀ j = (j ≤ count contracts) × (allTo (named (toZ w64 areas) contracts) j ≡ true)
@@ -27,7 +23,6 @@ Inv-loop contracts areas n j₀ j = (j ≤ count contracts) × (allTo (named (to
 abbrev μ-loop : tie.MeasureT-loop
 μ-loop contracts areas n j₀ j = count contracts - j
 
--- PRE
 abbrev test : tie.Start Inv-loop μ-loop → ℕ → Bool
 test s = named (toZ w64 (ofZ w64 (s .args .areas))) (s .args .contracts .now)
 
@@ -36,33 +31,25 @@ whole s = simp (toZ-ofZ (s .fits .areas))
 
 tested : (c : tie.After-is-named Inv-loop μ-loop) → let l = c .before .before in test (l .before) (l .loop .j) ≡ c .is-named .result
 tested c = sym (c .is-named .ensures)
--- END
 
--- src/lib.rt:64:5
 loop-holds : tie.Need-loop-holds Inv-loop μ-loop
 loop-holds c = (search needs, allTo-none (test c))
 
--- src/lib.rt:65:13
 is-named-requires : tie.Need-is-named-requires Inv-loop μ-loop
 is-named-requires c κs = let s = c .before .before in (search needs, subst (λ (z : ℤ). Within z 16) (sym (toZ-ofZ (s .fits .areas))) (s .pre))
 
--- src/lib.rt:66:13
 returns : tie.Need-returns Inv-loop μ-loop
 returns c = let l = c .before .before .before in sym (whole (l .before) ∙ allTo-fails (test (l .before)) (count (l .before .args .contracts .now)) (l .loop .j) (search needs) (tested (c .before) ∙ not-true _ (c .if1 .taken)))
 
--- src/lib.rt:68:9
 add-j : tie.Need-add-j Inv-loop μ-loop
 add-j c = search needs
 
--- src/lib.rt:64:5
 loop-less : tie.Need-loop-less Inv-loop μ-loop
 loop-less c = search needs
 
--- src/lib.rt:64:5
 loop-again : tie.Need-loop-again Inv-loop μ-loop
 loop-again c = let l = c .before .before .before in (search needs, allTo-next (test (l .before)) (l .loop .j) (l .loop .inv .1) (tested (c .before) ∙ not-false _ (c .if1 .left)))
 
--- src/lib.rt:58:1
 returns-2 : tie.Need-returns-2 Inv-loop μ-loop
 returns-2 c = let l = c .before in sym (whole (l .before) ∙ (ap (allTo (test (l .before))) (omega arith) ∙ l .loop .inv .1))
 

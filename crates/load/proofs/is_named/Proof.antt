@@ -1,6 +1,7 @@
+-- `load::is_named` meets its contract. Assumes nothing.
 use Rattle.load.specs.Load.{supplier, area}
 use Rattle.ints.proofs.Sizes.{w-sub, w-lit, w-fits}
-use Rattle.ints.specs.Number.{Within, between}
+use Rattle.ints.specs.Number.{between}
 use mir.Facts.{toZ-ofZ}
 use mir.Val.{SFits, toZ, ofZ}
 use mir.Syntax.{w64}
@@ -8,15 +9,9 @@ use lib.IntN.{ℤ, pos, _-ℤ_}
 use mathlib.Core.Bool.{Bool, _&&_}
 use mathlib.Core.Path.{_≡_, sym, ap, ap₂, _∙_}
 use borrow.Author.Needs.{needs, sfits-of}
-use borrow.Author.Needs.{needs}
 use Rattle.load.proofs.is_named.Statement.{statement}
 use Rattle.load.proofs.is_named.Tie as tie
-use Rattle.load.proofs.is_named.Reads as reads
-use Rattle.load.proofs.is_named.Lts as lts
-use Rattle.ints.proofs.is_between.Reads as is-between-reads
 
-
--- PRE
 -- the last area
 last : (s : tie.Start) → SFits w64 (s .args .areas -ℤ pos 1)
 last s = w-fits (w-sub (s .pre .1) (w-lit {x = pos 1} {k = 1} tt)) tt
@@ -34,54 +29,41 @@ second : (c : tie.After-is-between2) → let s = c .before .before .before .befo
 second c =
     let s = c .before .before .before .before .before in
     sym (c .is-between2 .ensures ∙ ap₂ (between (pos 0)) (ap (λ (z : ℤ). toZ w64 (ofZ w64 (z -ℤ pos 1))) (toZ-ofZ (s .fits .areas)) ∙ toZ-ofZ (last s)) (toZ-ofZ {w = w64} {z = area (s .args .contracts .now) (s .args .j)} (sfits-of (c .before .is-between-arg2 .given))))
--- END
 
--- src/lib.rt:54:32
 mul-is-between : tie.Need-mul-is-between
 mul-is-between c = search needs
 
--- src/lib.rt:54:22
 mul-is-between-2 : tie.Need-mul-is-between-2
 mul-is-between-2 c = search needs
 
--- src/lib.rt:54:22
 shared-slice-copy-out-is-between : tie.Need-shared-slice-copy-out-is-between
 shared-slice-copy-out-is-between c = search needs
 
--- src/lib.rt:54:5
 is-between-requires : tie.Need-is-between-requires
 is-between-requires c κs = search needs
 
--- src/lib.rt:54:77
 mul-is-between-3 : tie.Need-mul-is-between-3
 mul-is-between-3 c = search needs
 
--- src/lib.rt:54:77
 add-is-between : tie.Need-add-is-between
 add-is-between c = search needs
 
--- src/lib.rt:54:67
 mul-is-between-4 : tie.Need-mul-is-between-4
 mul-is-between-4 c = search needs
 
--- src/lib.rt:54:67
 shared-slice-copy-out-is-between-2 : tie.Need-shared-slice-copy-out-is-between-2
 shared-slice-copy-out-is-between-2 c = search needs
 
--- src/lib.rt:54:92
 sub-is-between : tie.Need-sub-is-between
 sub-is-between c = simp (toZ-ofZ (c .before .before .before .before .fits .areas)) (last (c .before .before .before .before))
 
--- src/lib.rt:54:50
 is-between-requires-2 : tie.Need-is-between-requires-2
 is-between-requires-2 c κs = search needs
 
--- src/lib.rt:49:1
 returns : tie.Need-returns
 returns c = let t = c .before .before in let s = t .before .before .before in
     sym (ap (λ (b : Bool). b && inArea s) (first (t .before) ∙ t .if1 .taken) ∙ second c)
 
--- src/lib.rt:49:1
 returns-2 : tie.Need-returns-2
 returns-2 c = let s = c .before .before .before in sym (ap (λ (b : Bool). b && inArea s) (first (c .before) ∙ c .if1 .left) ∙ sym (c .if1 .left))
 

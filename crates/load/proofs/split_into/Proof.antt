@@ -1,3 +1,4 @@
+-- `load::split_into` meets its contract. Assumes nothing.
 use Rattle.load.proofs.Tables.{lent-front}
 use Rattle.split.specs.Split.{refusal, parts}
 use Rattle.ints.specs.Refusal.{lent}
@@ -8,37 +9,26 @@ use Prim.Native.Nat.{ℕ}
 use mathlib.Core.List.{List, _++_}
 use mathlib.Core.Path.{_≡_, sym, ap, ap₂, _∙_}
 use lib.Seq.{length-take-le}
-use mathlib.Core.Path.{_≡_, sym, ap, _∙_}
 use borrow.Author.Needs.{needs}
 use Rattle.load.proofs.split_into.Statement.{statement}
 use Rattle.load.proofs.split_into.Tie as tie
-use Rattle.load.proofs.split_into.Reads as reads
-use Rattle.load.proofs.split_into.Lts as lts
-use Rattle.split.proofs.split.Reads as split-reads
 
--- PRE
 answer : (c : tie.After-split) → let s = c .before .before in c .split .result ≡ refusal (s .args .amount) (s .args .shares .now) (length (s .args .shares .now))
 answer c = let s = c .before .before in
     c .split .ensures .0 ∙ ap₂ (λ (z : ℤ) (n : ℕ). refusal z (s .args .shares .now) n) (toZ-ofZ (s .fits .amount)) (length-take-le (length (s .args .shares .now)) (s .args .made .now) (s .pre))
--- END
 
--- src/lib.rt:101:34
 slice-relend-prefix-split : tie.Need-slice-relend-prefix-split
 slice-relend-prefix-split c = search needs
 
--- src/lib.rt:101:34
 slice-aggregate-split : tie.Need-slice-aggregate-split
 slice-aggregate-split c = let s = c .before in sym (length-take-le _ (s .args .made .now) (s .pre))
 
--- src/lib.rt:101:5
 split-requires : tie.Need-split-requires
 split-requires c κs = search needs
 
--- src/lib.rt:95:1
 same-length : tie.Need-same-length
 same-length c = search needs
 
--- src/lib.rt:95:1
 returns : tie.Need-returns
 returns c = let s = c .before .before .before in let m = s .args .made .now in let n = length (s .args .shares .now) in
     (answer (c .before), ap (λ (l : List ℤ). l ++ drop n m) (c .before .split .ensures .1 ∙ ap₂ (λ (r : ℕ) (p : List ℤ). lent r p (take n m)) (sym (c .before .split .ensures .0)) (ap (λ (z : ℤ). parts z (s .args .shares .now)) (toZ-ofZ (s .fits .amount)))) ∙ lent-front (c .before .split .result) (parts (s .args .amount) (s .args .shares .now)) m n)
