@@ -136,7 +136,7 @@ module _ (n distributor : ℕ) (tranches loads contracted : List ℤ) where
 
 -- ---- the load covers the contracts
 
-natural-sum : (f : ℕ → ℤ) (g : ℕ → ℕ) (n : ℕ) → ((i : ℕ) → i < n → f i ≡ pos (g i)) → sumTo f n ≡ pos (sumN g n)
+pub natural-sum : (f : ℕ → ℤ) (g : ℕ → ℕ) (n : ℕ) → ((i : ℕ) → i < n → f i ≡ pos (g i)) → sumTo f n ≡ pos (sumN g n)
 natural-sum f g n h = sumTo-ext f (λ i. pos (g i)) n h ∙ signed-sum false g n
 
 pub minus-natural : (m k : ℕ) → k ≤ m → pos m -ℤ pos k ≡ pos (m - k)
@@ -157,7 +157,7 @@ left-ranged x y r e t = record { natural = is ∙ ap (λ (z : ℤ). pos (natAbs 
 
 module _ (n : ℕ) (areaParts contracts : List ℤ) (given : Contracts n areaParts contracts) where
   -- what contract j comes to, as a natural number
-  abbrev kwAt : ℕ → ℕ → ℕ
+  abbrev pub kwAt : ℕ → ℕ → ℕ
   kwAt j b = part (natAbs (kw contracts j)) (partsOf n areaParts (natAbs (area contracts j))) b
 
   pub contract-natural : (j b : ℕ) → j < count contracts → b < n → contractAt n areaParts contracts j b ≡ pos (kwAt j b)

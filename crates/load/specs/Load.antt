@@ -49,9 +49,12 @@ abbrev pub partsOf : ℕ → List ℤ → ℕ → List ℤ
 partsOf buses areaParts a = take buses (drop (a * buses) areaParts)
 
 module _ (buses : ℕ) (areaParts contracts : List ℤ) where
-  -- "Each contract (supplier, area, kW) is split over the buses by its area's parts, by itself": what contract j comes to at bus b
+  -- "Each contract (supplier, area, kW) is split over the buses by its area's parts, by itself": contract j, and what it comes to at bus b
+  abbrev pub contractParts : ℕ → List ℤ
+  contractParts j = parts (kw contracts j) (partsOf buses areaParts (natAbs (area contracts j)))
+
   unfoldable pub contractAt : ℕ → ℕ → ℤ
-  contractAt j b = parts (kw contracts j) (partsOf buses areaParts (natAbs (area contracts j))) at b
+  contractAt j b = contractParts j at b
 
   -- "the results add up per supplier and bus": for participant p, and for all
   abbrev pub contractLoad : ℕ → ℕ → ℤ
