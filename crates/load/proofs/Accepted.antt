@@ -62,6 +62,7 @@ counted loads imports generation areas contracts e =
 
 pub record Measured (loads : List ℤ) (areas : ℤ) (areaParts contracts tranches : List ℤ) (n : ℕ) : Type 0 where
   pub parts-long : length areaParts ≡ natAbs areas * length loads
+  pub contracts-whole : length contracts % 3 ≡ 0
   pub tranches-long : length tranches ≡ 64
   pub result-long : n ≡ 64 * length loads
 
@@ -74,6 +75,7 @@ measured loads areas areaParts contracts tranches n e =
     let p4 = passed (eqb n (64 * length loads)) 0 0 (p3 .1) in
     record {
       parts-long = eqb-true (length areaParts) (natAbs areas * length loads) (p1 .0);
+      contracts-whole = eqb-true (length contracts % 3) 0 (p2 .0);
       tranches-long = eqb-true (length tranches) 64 (p3 .0);
       result-long = eqb-true n (64 * length loads) (p4 .0);
     }

@@ -14,17 +14,18 @@ use Rattle.ints.specs.Refusal.{pick, unless}
 use Rattle.ints.specs.Table.{_at_, tab}
 use Rattle.ints.proofs.Bools.{either}
 use Rattle.ints.proofs.Eachs.{allTo-ext}
-use Rattle.ints.proofs.Tables.{getD-tab, tab-ext}
+use Rattle.ints.proofs.Orders.{then-none}
+use Rattle.ints.proofs.Tables.{length-tab, getD-tab, tab-ext}
 use Rattle.split.specs.Split.{parts}
 use Rattle.split.proofs.Laws.{length-parts}
 use Rattle.load.specs.Load.{isMetered, meteredLoad, busLoads, contracted, Given, buses, assigned, assignment}
-use Rattle.load.specs.Order.{meters, cover}
+use Rattle.load.specs.Order.{tests, meters, cover, refusal}
 use Rattle.load.specs.Table.{cell}
 use Rattle.load.specs.Given.{Ranged, Splits, Metered}
 use Rattle.load.proofs.Tables.{row-of, column-of, row-end}
 use Rattle.load.proofs.Splits.{part-ranged, last-line}
 use Rattle.load.proofs.Meters.{unmetered-loads, metered-loads, metered-outside, metered-inside}
-use Rattle.load.proofs.Accepted.{Naturals, ranged-of}
+use Rattle.load.proofs.Accepted.{Naturals, ranged-of, tested}
 
 -- ---- step 1
 
@@ -79,3 +80,8 @@ module _ (d : Given) where
   assignment-is table some h =
       tab-ext _ _ (64 * buses d)
       (λ k l. ap (λ (i : ℕ). table at i) (sym (div-add-mod' k (buses d))) ∙ h (k / buses d) (k % buses d) (div-lt-iff-lt-mul some .1 l) (mod-lt k some))
+
+-- an accepted assignment is as long as the list lent for it
+pub length-assignment : (d : Given) (n : ℕ) → refusal d n ≡ 0 → length (assignment d) ≡ n
+unfolding assignment refusal
+length-assignment d n e = length-tab (λ k. assigned d (k / buses d) (k % buses d)) (64 * buses d) ∙ sym (tested d n (then-none (tests d n) _ e .0) .lengths-pass .result-long)

@@ -2,9 +2,8 @@
 -- there, that with metering the buses' loads total the metered load, and that nobody's kW is below zero. Assumes nothing.
 use mathlib.Core.Path.{_≡_, refl, sym, ap, ap₂, _∙_, subst}
 use mathlib.Core.Logic.{_⊎_, inl, inr, ⊎-elim}
-use mathlib.Core.List.{List}
 use mathlib.Core.Bool.{Bool, true, false}
-use Prim.Native.Nat.{ℕ, _+_, _≤_, _<_}
+use Prim.Native.Nat.{ℕ, _+_, _<_}
 use native.Mathlib.Omega.{arith}
 use lib.Dec.{eqb}
 use lib.IntN.{ℤ, pos, natAbs, _+ℤ_, _-ℤ_}
@@ -29,7 +28,7 @@ use Rattle.load.specs.Order.{tests, meters, cover, refusal}
 use Rattle.load.specs.Given.{Ranged, Splits}
 use Rattle.load.proofs.Splits.{part-ranged}
 use Rattle.load.proofs.Meters.{metered-loads}
-use Rattle.load.proofs.Handed.{stays, is-shared, splits-over, contract-natural, contracted-natural, left-ranged, natural-sum, kwAt}
+use Rattle.load.proofs.Handed.{stays, is-shared, splits-over, contract-natural, contracted-natural, left-ranged, natural-sum}
 use Rattle.load.proofs.Accepted.{Tested, tested, naturals-of}
 use Rattle.load.proofs.Assigned.{metered-splits, bus-load-ranged}
 

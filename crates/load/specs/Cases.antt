@@ -1,14 +1,12 @@
 -- Document 01's cases of load, computed. Assumes nothing.
-use mathlib.Core.List.{List, [], _∷_}
+use mathlib.Core.List.{[], _∷_}
 use mathlib.Core.Path.{_≡_, refl}
-use Prim.Native.Nat.{ℕ}
-use lib.IntN.{ℤ, pos, negℤ}
+use lib.IntN.{pos, negℤ}
 use lib.ListN.{replicate}
 use Rattle.ints.specs.Sum.{sumTo, sumN}
-use Rattle.ints.specs.Table.{tab, all}
-use Rattle.ints.specs.Each.{allTo}
+use Rattle.ints.specs.Table.{tab}
 use Rattle.split.specs.Split.{total, cutDown, remainder, unitsLeft, before, place, part, parts}
-use Rattle.load.specs.Load.{busLoads, contractAt, auctioned, Given, given, rest, assigned}
+use Rattle.load.specs.Load.{busLoads, contractAt, auctioned, Given, given, assigned}
 use Rattle.load.specs.Order.{meters}
 
 -- "P11 estimator 100,200,300 and imports 500,-40 with generation 200 give 110,220,330."
