@@ -10,3 +10,5 @@ pub mod Refusals
 pub mod Unique
 pub mod Turns
 pub mod Members
+pub mod Orders
+pub mod Eachs

@@ -4,3 +4,5 @@ pub mod Table
 pub mod Refusal
 pub mod Twos
 pub mod Turn
+pub mod Order
+pub mod Each

@@ -5,6 +5,10 @@ use Prim.Native.Nat.{ℕ}
 use contract.Lifetimes.{Lfts}
 use Rattle.ints.proofs.Unique.{unique}
 use Rattle.wunzelihle.proofs.wz_split.Reads as wz-split
+use Rattle.wunzelihle.proofs.wz_assign_load.Reads as wz-assign-load
 
 pub wz-split-unique : (κs : Lfts 2) (a : _) (r s : ℕ) (e f : _) → wz-split.Post κs a r e → wz-split.Post κs a s f → (r ≡ s) × (e .1 .1 .0 .now ≡ f .1 .1 .0 .now)
 wz-split-unique κs a r s e f p q = (unique (p .0) (q .0), unique (p .1) (q .1))
+
+pub wz-assign-load-unique : (κs : Lfts 7) (a : _) (r s : ℕ) (e f : _) → wz-assign-load.Post κs a r e → wz-assign-load.Post κs a s f → (r ≡ s) × (e .1 .1 .1 .1 .1 .1 .1 .1 .1 .0 .now ≡ f .1 .1 .1 .1 .1 .1 .1 .1 .1 .0 .now)
+wz-assign-load-unique κs a r s e f p q = (unique (p .0) (q .0), unique (p .1) (q .1))

@@ -1,7 +1,15 @@
 // What the C server calls. Lists cross in bytes, eight a number; the work is done in the crates below.
 ghost use mathlib.Core.Path.{_≡_};
-ghost use lib.ListN.{length};
+ghost use mathlib.Core.Bool.{true};
+ghost use mathlib.Core.List.{_++_};
+ghost use Prim.Native.Nat.{_/_};
+ghost use lib.ListN.{length, drop};
+ghost use Rattle.numbers.specs.Bytes.{numbers, encoded};
 ghost use Rattle.wunzelihle.specs.Split.{splitRefusal, splitOutcome};
+ghost use Rattle.wunzelihle.specs.Load.{listed, AllListed, givenBytes, loadRefusal, loadOutcome};
+ghost use Rattle.ints.specs.Refusal.{lent};
+ghost use Rattle.load.specs.Load.{assignment};
+ghost use Rattle.load.specs.Order.{refusal};
 
 #[no_mangle]
 pub extern "C" fn wz_split(amount: i64, shares: &[u8], parts: &mut [u8]) -> u32
@@ -29,5 +37,128 @@ pub extern "C" fn wz_split(amount: i64, shares: &[u8], parts: &mut [u8]) -> u32
         return refused;
     }
     numbers::write_all(&made[..n], parts);
+    0
+}
+
+// Whether so many bytes are whole numbers, and at most so many.
+fn is_list(bytes: usize, most: usize) -> bool
+    ensures { λ r. ⌜ r ≡ listed bytes most ⌝ }
+{
+    bytes % 8 == 0 && bytes / 8 <= most
+}
+
+// A list read into the front of another.
+fn read_front(bytes: &[u8], list: &mut [i64])
+    requires { ⌜ listed (length (now bytes)) (length (now list)) ≡ true ⌝ }
+    ensures { λ _. ⌜ now (list .exit) ≡ numbers (now (bytes .entry)) ++ drop (length (now (bytes .entry)) / 8) (now (list .entry)) ⌝ }
+{
+    let n = bytes.len() / 8;
+    numbers::read_all(bytes, &mut list[..n]);
+}
+
+#[no_mangle]
+pub extern "C" fn wz_assign_load(
+    metered: i64,
+    distributor: i64,
+    loads: &[u8],
+    imports: &[u8],
+    generation: &[u8],
+    areas: i64,
+    millionths: &[u8],
+    contracts: &[u8],
+    tranches: &[u8],
+    out: &mut [u8],
+) -> u32
+    ensures { λ r. ⌜ r ≡ loadRefusal metered distributor (now (loads .entry)) (now (imports .entry)) (now (generation .entry)) areas (now (millionths .entry)) (now (contracts .entry)) (now (tranches .entry)) (length (now (out .entry))) ⌝ }
+    ensures { λ _. ⌜ now (out .exit) ≡ loadOutcome metered distributor (now (loads .entry)) (now (imports .entry)) (now (generation .entry)) areas (now (millionths .entry)) (now (contracts .entry)) (now (tranches .entry)) (now (out .entry)) ⌝ }
+{
+    if !is_list(loads.len(), 64) {
+        return 1;
+    }
+    if !is_list(imports.len(), 64) {
+        return 1;
+    }
+    if !is_list(generation.len(), 64) {
+        return 1;
+    }
+    if !is_list(millionths.len(), 1024) {
+        return 1;
+    }
+    if !is_list(contracts.len(), 768) {
+        return 1;
+    }
+    if !is_list(tranches.len(), 64) {
+        return 1;
+    }
+    if !is_list(out.len(), 4096) {
+        return 1;
+    }
+    assign_listed(
+        metered,
+        distributor,
+        loads,
+        imports,
+        generation,
+        areas,
+        millionths,
+        contracts,
+        tranches,
+        out,
+    )
+}
+
+// The same for slices that are lists of accepted lengths, or shorter.
+fn assign_listed(
+    metered: i64,
+    distributor: i64,
+    loads: &[u8],
+    imports: &[u8],
+    generation: &[u8],
+    areas: i64,
+    millionths: &[u8],
+    contracts: &[u8],
+    tranches: &[u8],
+    out: &mut [u8],
+) -> u32
+    requires { ⌜ AllListed (now loads) (now imports) (now generation) (now millionths) (now contracts) (now tranches) (length (now out)) ⌝ }
+    ensures { λ r. ⌜ r ≡ refusal (givenBytes metered distributor (now (loads .entry)) (now (imports .entry)) (now (generation .entry)) areas (now (millionths .entry)) (now (contracts .entry)) (now (tranches .entry))) (length (now (out .entry)) / 8) ⌝ }
+    ensures { λ r. ⌜ now (out .exit) ≡ lent r (encoded (assignment (givenBytes metered distributor (now (loads .entry)) (now (imports .entry)) (now (generation .entry)) areas (now (millionths .entry)) (now (contracts .entry)) (now (tranches .entry))))) (now (out .entry)) ⌝ }
+{
+    let mut at_buses = [0i64; 64];
+    read_front(loads, &mut at_buses);
+    let mut imported = [0i64; 64];
+    read_front(imports, &mut imported);
+    let mut generated = [0i64; 64];
+    read_front(generation, &mut generated);
+    let mut parts = [0i64; 1024];
+    read_front(millionths, &mut parts);
+    let mut contracted = [0i64; 768];
+    read_front(contracts, &mut contracted);
+    let mut won = [0i64; 64];
+    read_front(tranches, &mut won);
+    let mut made = [0i64; 4096];
+    let b = loads.len() / 8;
+    let i = imports.len() / 8;
+    let g = generation.len() / 8;
+    let p = millionths.len() / 8;
+    let c = contracts.len() / 8;
+    let t = tranches.len() / 8;
+    let m = out.len() / 8;
+    let refused = load::assign(
+        metered,
+        distributor,
+        &at_buses[..b],
+        &imported[..i],
+        &generated[..g],
+        areas,
+        &parts[..p],
+        &contracted[..c],
+        &won[..t],
+        &mut made[..m],
+    );
+    if refused != 0 {
+        return refused;
+    }
+    numbers::write_all(&made[..m], out);
     0
 }

@@ -1,0 +1,52 @@
+-- A test of each of 0 .. n - 1, one by one. Assumes nothing.
+use mathlib.Core.Path.{_≡_, refl, sym, ap, ap₂, _∙_}
+use mathlib.Core.Logic.{⊎-elim}
+use mathlib.Core.Bool.{Bool, true, false, _&&_, and-false}
+use mathlib.Core.List.{List, [], _∷_}
+use Prim.Native.Nat.{ℕ, zero, suc, _+_, _<_, suc-le-suc}
+use native.Mathlib.Nat.{eq-or-lt-of-le, le-of-suc-le-suc, not-suc-le-zero}
+use native.Mathlib.Numerals.{add-one}
+use native.Mathlib.Omega.{arith}
+use lib.ListN.{length, getD}
+use Rattle.ints.specs.Each.{allTo}
+use Rattle.ints.specs.Table.{all}
+use Rattle.ints.proofs.Bools.{and-true}
+
+module _ (t : ℕ → Bool) where
+  -- a loop that tests one after the other: before the first, one more that passes, one that fails
+  pub allTo-none : allTo t 0 ≡ true
+  unfolding allTo
+  allTo-none = refl
+
+  pub allTo-next : (i : ℕ) → allTo t i ≡ true → t i ≡ true → allTo t (i + 1) ≡ true
+  unfolding allTo
+  allTo-next i e h = ap (allTo t) (add-one i) ∙ ap₂ _&&_ e h
+
+  pub allTo-fails : (n i : ℕ) → i < n → t i ≡ false → allTo t n ≡ false
+  unfolding allTo
+  allTo-fails zero i l h = absurd (not-suc-le-zero l)
+  allTo-fails (suc n) i l h =
+      ⊎-elim
+      (λ e. ap (λ (b : Bool). allTo t n && b) (ap t (sym e) ∙ h) ∙ and-false (allTo t n))
+      (λ u. ap (λ (b : Bool). b && t n) (allTo-fails n i u h))
+      (eq-or-lt-of-le (le-of-suc-le-suc l))
+
+  -- a test that all pass is passed by each
+  pub allTo-at : (n : ℕ) → allTo t n ≡ true → (i : ℕ) → i < n → t i ≡ true
+  unfolding allTo
+  allTo-at zero e i l = absurd (not-suc-le-zero l)
+  allTo-at (suc n) e i l =
+      let b = and-true (allTo t n) (t n) e in
+      ⊎-elim (λ q. ap t q ∙ b .1) (λ u. allTo-at n (b .0) i u) (eq-or-lt-of-le (le-of-suc-le-suc l))
+
+-- equal tests, below n
+pub allTo-ext : (s t : ℕ → Bool) (n : ℕ) → ((i : ℕ) → i < n → s i ≡ t i) → allTo s n ≡ allTo t n
+unfolding allTo
+allTo-ext s t zero h = refl
+allTo-ext s t (suc n) h = ap₂ _&&_ (allTo-ext s t n (λ i l. h i (omega arith))) (h n (omega arith))
+
+-- a test that each element passes is passed by all
+pub all-each : {A : Type 0} (t : A → Bool) (d : A) (l : List A) → ((i : ℕ) → i < length l → t (getD l i d) ≡ true) → all t l ≡ true
+unfolding all
+all-each t d [] h = refl
+all-each t d (x ∷ xs) h = ap₂ _&&_ (h 0 (omega arith)) (all-each t d xs (λ i l. h (suc i) (suc-le-suc l)))

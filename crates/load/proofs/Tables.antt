@@ -1,0 +1,196 @@
+-- Laws of the table: parts added one by one, by rows and by columns. Assumes nothing.
+use mathlib.Core.Path.{_≡_, refl, sym, ap, ap₂, _∙_, subst}
+use mathlib.Core.List.{List, _++_}
+use mathlib.Core.Bool.{Bool, true, false, _&&_, and-true as and-unit, and-false, and-comm}
+use Prim.Native.Nat.{ℕ, zero, suc, _+_, _*_, _/_, _%_, _≤_, _<_}
+use native.Mathlib.Nat.{mul-add-div-right, mul-add-mod-self-right, div-eq-of-lt, mod-eq-of-lt, mul-one, add-comm, suc-mul, mul-le-mul-right}
+use native.Mathlib.Omega.{arith}
+use lib.Dec.{eqb}
+use lib.IntN.{ℤ, pos, _+ℤ_, +ℤ-idl, +ℤ-idr, +ℤ-assoc}
+use lib.ListN.{length, set, take, drop, replicate, length-set, take-append-drop}
+use lib.Seq.{getD-set-same, getD-set-other}
+use borrow.Author.Tests.{eq-eqb, ne-eqb, eqb-true, eqb-false}
+use Rattle.ints.specs.Number.{Within}
+use Rattle.ints.specs.Refusal.{pick, lent}
+use Rattle.ints.specs.Sum.{sumTo, only}
+use Rattle.ints.specs.Table.{_at_}
+use Rattle.ints.proofs.Bools.{same, and-true}
+use Rattle.ints.proofs.Sizes.{w-add, w-lit, w-up}
+use Rattle.ints.proofs.Sums.{sumTo-zero, sumTo-next, sumTo-only, sumTo-abs}
+use Rattle.load.specs.Table.{InRange, Room, Spread, cell, Cells, Added}
+
+-- a number added at q is added there alone
+added-at : (xs : List ℤ) (q : ℕ) (z : ℤ) (k : ℕ) → q < length xs → set xs q (xs at q +ℤ z) at k ≡ xs at k +ℤ only (eqb q k) z
+added-at xs q z k l = by (eqb q k) refl
+  where
+    by : (b : Bool) → eqb q k ≡ b → set xs q (xs at q +ℤ z) at k ≡ xs at k +ℤ only b z
+    by true e =
+        ap (λ (k : ℕ). set xs q (xs at q +ℤ z) at k) (sym (eqb-true q k e)) ∙ getD-set-same xs q (xs at q +ℤ z) (pos 0) l
+        ∙ ap (λ (k : ℕ). xs at k +ℤ z) (eqb-true q k e)
+    by false e = getD-set-other xs q k (xs at q +ℤ z) (pos 0) (λ s. eqb-false q k e (sym s)) ∙ sym (+ℤ-idr (xs at k))
+
+-- what is within a bound, or left out
+pub only-within : (b : Bool) {z : ℤ} {k : ℕ} → Within z k → Within (only b z) k
+only-within true w = w
+only-within false w = w-up (w-lit {x = pos 0} {k = 0} tt) (omega arith)
+
+-- ---- parts are added one by one
+
+-- what part i adds at k
+abbrev share : ℕ → ℕ → List ℤ → ℕ → ℕ → ℤ
+share start step parts k i = only (eqb (start + i * step) k) (parts at i)
+
+module _ {before : List ℤ} {start step : ℕ} {parts : List ℤ} where
+  pub spread-none : Spread before start step parts 0 before
+  spread-none = record { same = refl; each = λ k. sym (ap (λ (z : ℤ). before at k +ℤ z) (sumTo-zero (share start step parts k)) ∙ +ℤ-idr (before at k)) }
+
+  pub spread-next : {i : ℕ} {table : List ℤ} (z : ℤ) → Spread before start step parts i table → start + i * step < length table → z ≡ parts at i
+      → Spread before start step parts (i + 1) (set table (start + i * step) (table at (start + i * step) +ℤ z))
+  spread-next {i} {table} z s l e = record { same = length-set table (start + i * step) _ ∙ s .same; each = one }
+    where
+      one : (k : ℕ) → set table (start + i * step) (table at (start + i * step) +ℤ z) at k ≡ before at k +ℤ sumTo (share start step parts k) (i + 1)
+      one k =
+          added-at table (start + i * step) z k l
+          ∙ ap₂ _+ℤ_ (s .each k) (ap (only (eqb (start + i * step) k)) e)
+          ∙ +ℤ-assoc (before at k) (sumTo (share start step parts k) i) (share start step parts k i)
+          ∙ ap (λ (y : ℤ). before at k +ℤ y) (sym (sumTo-next (share start step parts k) i))
+
+  -- while they are, no number is larger than at first by more than 64 parts
+  pub spread-within : {n i : ℕ} {table : List ℤ} → Room before start step parts n → Spread before start step parts i table → i < n → Within (table at (start + i * step)) 100000000000000
+  spread-within {n} {i} {table} r s l =
+      let k = start + i * step in
+      subst (λ (z : ℤ). Within z 100000000000000) (sym (s .each k))
+      (w-up (w-add (r .before i l) (record { within = sumTo-abs (share start step parts k) 1000000000000 i (λ j h. only-within (eqb (start + j * step) k) (r .small .each j (omega arith)) .within) }))
+      (omega (arith, r .few)))
+
+-- a list whose front was lent, and is given back as the answer says
+pub lent-front : (answer : ℕ) (result whole : List ℤ) (n : ℕ) → lent answer result (take n whole) ++ drop n whole ≡ lent answer (result ++ drop n whole) whole
+lent-front answer result whole n = by (eqb answer 0)
+  where
+    by : (b : Bool) → pick b result (take n whole) ++ drop n whole ≡ pick b (result ++ drop n whole) whole
+    by true = refl
+    by false = take-append-drop n whole
+
+-- ---- rows and columns
+
+-- number k of a table is in row k / n, at column k % n
+pub row-of : (n p b : ℕ) → b < n → (p * n + b) / n ≡ p
+row-of n p b l = mul-add-div-right (omega arith) p b ∙ omega (arith, div-eq-of-lt l)
+
+pub column-of : (n p b : ℕ) → b < n → (p * n + b) % n ≡ b
+column-of n p b l = mul-add-mod-self-right p n b ∙ mod-eq-of-lt l
+
+-- two places are the same where row and column are
+module _ (n q i p b : ℕ) (in-row : i < n) (in-row′ : b < n) where
+  meets : q * n + i ≡ p * n + b → (q ≡ p) × (i ≡ b)
+  meets e =
+      (sym (row-of n q i in-row) ∙ ap (λ (k : ℕ). k / n) e ∙ row-of n p b in-row′, sym (column-of n q i in-row) ∙ ap (λ (k : ℕ). k % n) e ∙ column-of n p b in-row′)
+
+  pub same-place : eqb (q * n + i) (p * n + b) ≡ (eqb q p && eqb i b)
+  same-place =
+      same (eqb (q * n + i) (p * n + b)) (eqb q p && eqb i b)
+      (λ t. let m = meets (eqb-true (q * n + i) (p * n + b) t) in ap₂ _&&_ (eq-eqb q p (m .0)) (eq-eqb i b (m .1)))
+      (λ t. let m = and-true (eqb q p) (eqb i b) t in eq-eqb (q * n + i) (p * n + b) (omega (arith, ap (λ (x : ℕ). x * n) (eqb-true q p (m .0)), eqb-true i b (m .1))))
+
+-- of a sum of chosen terms the one at `place` is left, where no other can be chosen
+one-left : (test : ℕ → Bool) (f : ℕ → ℤ) (t : Bool) (place n : ℕ) → place < n → ((i : ℕ) → i < n → test i ≡ (t && eqb i place)) → sumTo (λ i. only (test i) (f i)) n ≡ only t (f place)
+one-left test f t place n l h =
+    sumTo-only (λ i. only (test i) (f i)) n place l (λ i u ne. ap (λ (b : Bool). only b (f i)) (h i u ∙ ap (λ (b : Bool). t && b) (ne-eqb i place ne) ∙ and-false t))
+    ∙ ap (λ (b : Bool). only b (f place)) (h place l ∙ ap (λ (b : Bool). t && b) (eq-eqb place place refl) ∙ and-unit t)
+
+module _ {before parts after : List ℤ} (n : ℕ) where
+  -- parts added along row q
+  pub row-added : (q : ℕ) → Spread before (q * n) 1 parts n after → Added n (λ p b. only (eqb q p) (parts at b)) before after
+  row-added q s = record { same = s .same; each = λ p b _ l. s .each (p * n + b) ∙ ap (λ (z : ℤ). cell n before p b +ℤ z) (one-left (λ i. eqb (q * n + i * 1) (p * n + b)) (λ i. parts at i) (eqb q p) b n l (place p b l)) }
+    where
+      place : (p b : ℕ) → b < n → (i : ℕ) → i < n → eqb (q * n + i * 1) (p * n + b) ≡ (eqb q p && eqb i b)
+      place p b l i u = ap (λ (k : ℕ). eqb (q * n + k) (p * n + b)) (mul-one i) ∙ same-place n q i p b u l
+
+  -- parts added along column c
+  pub column-added : (c : ℕ) → c < n → Spread before c n parts 64 after → Added n (λ p b. only (eqb c b) (parts at p)) before after
+  column-added c h s = record { same = s .same; each = λ p b u l. s .each (p * n + b) ∙ ap (λ (z : ℤ). cell n before p b +ℤ z) (one-left (λ i. eqb (c + i * n) (p * n + b)) (λ i. parts at i) (eqb c b) p 64 u (place p b l)) }
+    where
+      place : (p b : ℕ) → b < n → (i : ℕ) → i < 64 → eqb (c + i * n) (p * n + b) ≡ (eqb c b && eqb i p)
+      place p b l i u = ap (λ (k : ℕ). eqb k (p * n + b)) (add-comm c (i * n)) ∙ same-place n i c p b h l ∙ and-comm (eqb i p) (eqb c b)
+
+-- a number added in row q at column c
+pub cell-added : {before : List ℤ} (n q c : ℕ) (z : ℤ) → c < n → q * n + c < length before
+    → Added n (λ p b. only (eqb c b) (only (eqb q p) z)) before (set before (q * n + c) (before at (q * n + c) +ℤ z))
+cell-added {before} n q c z h r = record {
+  same = length-set before (q * n + c) _;
+  each = λ p b _ l. added-at before (q * n + c) z (p * n + b) r ∙ ap (λ (y : ℤ). cell n before p b +ℤ y) (ap (λ (t : Bool). only t z) (same-place n q c p b h l) ∙ both (eqb q p) (eqb c b));
+}
+  where
+    both : (s t : Bool) → only (s && t) z ≡ only t (only s z)
+    both true true = refl
+    both true false = refl
+    both false true = refl
+    both false false = refl
+
+-- ---- one addition after the other
+
+module _ {n : ℕ} where
+  pub added-none : {table : List ℤ} (f : ℕ → ℕ → ℤ) → ((p b : ℕ) → f p b ≡ pos 0) → Added n f table table
+  added-none {table} f h = record { same = refl; each = λ p b _ _. sym (ap (λ (z : ℤ). cell n table p b +ℤ z) (h p b) ∙ +ℤ-idr (cell n table p b)) }
+
+  pub added-then : {f g : ℕ → ℕ → ℤ} {before table after : List ℤ} (h : ℕ → ℕ → ℤ) → Added n f before table → Added n g table after
+      → ((p b : ℕ) → p < 64 → b < n → f p b +ℤ g p b ≡ h p b) → Added n h before after
+  added-then {f} {g} {before} h x y e = record {
+    same = y .same ∙ x .same;
+    each = λ p b u l.
+        y .each p b u l ∙ ap (λ (z : ℤ). z +ℤ g p b) (x .each p b u l) ∙ +ℤ-assoc (cell n before p b) (f p b) (g p b)
+        ∙ ap (λ (z : ℤ). cell n before p b +ℤ z) (e p b u l);
+  }
+
+  pub added-same : {f : ℕ → ℕ → ℤ} {before after : List ℤ} (h : ℕ → ℕ → ℤ) → Added n f before after → ((p b : ℕ) → p < 64 → b < n → f p b ≡ h p b) → Added n h before after
+  added-same {f} {before} h x e = record { same = x .same; each = λ p b u l. x .each p b u l ∙ ap (λ (z : ℤ). cell n before p b +ℤ z) (e p b u l) }
+
+  -- a bound on what was there and on what is added
+  pub added-cells : {f : ℕ → ℕ → ℤ} {before after : List ℤ} {k m : ℕ} (most : ℕ) → Added n f before after → Cells n before k → ((p b : ℕ) → p < 64 → b < n → Within (f p b) m) → k + m ≤ most → Cells n after most
+  added-cells most x c w h = record { each = λ p b u l. subst (λ (z : ℤ). Within z most) (sym (x .each p b u l)) (w-up (w-add (c .each p b u l) (w p b u l)) h) }
+
+  pub cells-up : {table : List ℤ} {k : ℕ} (most : ℕ) → Cells n table k → k ≤ most → Cells n table most
+  cells-up most c h = record { each = λ p b u l. w-up (c .each p b u l) h }
+
+-- ---- there is room along a row and along a column
+
+-- row q lies within the first m rows
+pub row-end : (n q m : ℕ) → q < m → q * n + n ≤ m * n
+row-end n q m h = rw suc-mul at (mul-le-mul-right n h)
+
+-- 64 rows of at most 64 numbers
+pub rows-fit : (n q c : ℕ) → n ≤ 64 → q < 64 → c < n → q * n + c < 4096
+rows-fit n q c few h l = omega (arith, row-end n q 64 h)
+
+module _ {table parts : List ℤ} (n : ℕ) (few : n ≤ 64) (cells : Cells n table 1000000000000) where
+  pub row-room : (q : ℕ) → q < 64 → q * n + n ≤ length table → n ≤ length parts → InRange parts n 1000000000000 → Room table (q * n) 1 parts n
+  row-room q h fits there small = record {
+    few = few;
+    given = there;
+    within = λ i l. omega arith;
+    before = λ i l. subst (λ (k : ℕ). Within (table at (q * n + k)) 1000000000000) (sym (mul-one i)) (cells .each q i h l);
+    small = small;
+  }
+
+  pub column-room : (c : ℕ) → c < n → length table ≡ 4096 → 64 ≤ length parts → InRange parts 64 1000000000000 → Room table c n parts 64
+  column-room c h long there small = record {
+    few = omega arith;
+    given = there;
+    within = λ i l. omega (arith, rows-fit n i c few l h);
+    before = λ i l. subst (λ (k : ℕ). Within (table at k) 1000000000000) (add-comm (i * n) c) (cells .each i c l h);
+    small = small;
+  }
+
+-- ---- zeros
+
+pub zeros-at : (m i : ℕ) → replicate m (pos 0) at i ≡ pos 0
+zeros-at zero i = refl
+zeros-at (suc m) zero = refl
+zeros-at (suc m) (suc i) = zeros-at m i
+
+pub zero-cells : (n m : ℕ) → Cells n (replicate m (pos 0)) 0
+zero-cells n m = record { each = λ p b _ _. subst (λ (z : ℤ). Within z 0) (sym (zeros-at m (p * n + b))) (w-lit tt) }
+
+-- what was added to zeros
+pub added-zeros : {n : ℕ} (m : ℕ) {f : ℕ → ℕ → ℤ} {after : List ℤ} → Added n f (replicate m (pos 0)) after → (p b : ℕ) → p < 64 → b < n → cell n after p b ≡ f p b
+added-zeros {n} m {f} x p b u l = x .each p b u l ∙ ap (λ (z : ℤ). z +ℤ f p b) (zeros-at m (p * n + b)) ∙ +ℤ-idl (f p b)

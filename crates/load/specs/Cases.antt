@@ -1,0 +1,48 @@
+-- Document 01's cases of load, computed. Assumes nothing.
+use mathlib.Core.List.{[], _∷_}
+use mathlib.Core.Path.{_≡_, refl}
+use lib.IntN.{pos, negℤ}
+use lib.ListN.{replicate}
+use Rattle.ints.specs.Sum.{sumTo, sumN}
+use Rattle.ints.specs.Table.{tab}
+use Rattle.split.specs.Split.{total, cutDown, remainder, unitsLeft, before, place, part, parts}
+use Rattle.load.specs.Load.{busLoads, contractAt, auctioned, Given, given, assigned}
+use Rattle.load.specs.Order.{meters}
+
+-- "P11 estimator 100,200,300 and imports 500,-40 with generation 200 give 110,220,330."
+pub P11 : busLoads (pos 1) (pos 100 ∷ pos 200 ∷ pos 300 ∷ []) (pos 500 ∷ negℤ (pos 40) ∷ []) (pos 200 ∷ []) ≡ pos 110 ∷ pos 220 ∷ pos 330 ∷ []
+unfolding sumTo tab sumN total cutDown remainder unitsLeft before place part parts
+P11 = refl
+
+-- "P12 601 metered gives 100,200,301."
+pub P12 : busLoads (pos 1) (pos 100 ∷ pos 200 ∷ pos 300 ∷ []) (pos 601 ∷ []) [] ≡ pos 100 ∷ pos 200 ∷ pos 301 ∷ []
+unfolding sumTo tab sumN total cutDown remainder unitsLeft before place part parts
+P12 = refl
+
+-- P11's distributor with "A 10 kW contract over parts 500,000, 333,333, 166,667", of participant 2, and tranches 3 and 1
+abbrev case : Given
+case = given (pos 1) (pos 0) (pos 100 ∷ pos 200 ∷ pos 300 ∷ []) (pos 500 ∷ negℤ (pos 40) ∷ []) (pos 200 ∷ []) (pos 1)
+    (pos 500000 ∷ pos 333333 ∷ pos 166667 ∷ []) (pos 2 ∷ pos 0 ∷ pos 10 ∷ []) (pos 3 ∷ pos 1 ∷ replicate 62 (pos 0))
+
+-- ".. is 5,3,2"
+pub contract : tab (contractAt 3 (case .areaParts) (case .contracts) 0) 3 ≡ pos 5 ∷ pos 3 ∷ pos 2 ∷ []
+unfolding sumTo tab sumN total cutDown remainder unitsLeft before place part parts contractAt
+contract = refl
+
+-- "of the rest of P11, tranches 3 and 1 give 79,163,246 and 26,54,82"
+pub first : tab (assigned case 0) 3 ≡ pos 79 ∷ pos 163 ∷ pos 246 ∷ []
+unfolding sumTo tab sumN total cutDown remainder unitsLeft before place part parts contractAt auctioned
+first = refl
+
+pub second : tab (assigned case 1) 3 ≡ pos 26 ∷ pos 54 ∷ pos 82 ∷ []
+unfolding sumTo tab sumN total cutDown remainder unitsLeft before place part parts contractAt auctioned
+second = refl
+
+-- "A metered load of 0 over loads 0: zeros; a metered load of 1 over loads 0: 7."
+pub nothing : busLoads (pos 1) (pos 0 ∷ pos 0 ∷ []) [] [] ≡ pos 0 ∷ pos 0 ∷ []
+unfolding sumTo tab sumN total cutDown remainder unitsLeft before place part parts
+nothing = refl
+
+pub nowhere : meters (pos 1) (pos 0 ∷ pos 0 ∷ []) (pos 1 ∷ []) [] ≡ 7
+unfolding sumTo sumN total meters
+nowhere = refl
