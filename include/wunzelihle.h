@@ -100,6 +100,77 @@ uint32_t wz_split(int64_t amount,
                   const uint8_t *shares, size_t shares_len,
                   uint8_t *parts, size_t parts_len);
 
+/*
+ * wz_assign_load: assign one distributor's load, bus by bus, to those who
+ * supply it.
+ *
+ *   metered      1 where the distributor is metered, else 0
+ *   distributor  the participant that it is, 0 to 63
+ *   loads        a number for each bus: its State Estimator load in kW, 0 to
+ *                20,000,000; 1 to 64 buses, so loads_len is 8 to 512
+ *   imports      a number for each tie meter: its net import in kW,
+ *                -20,000,000 to 20,000,000; 0 to 64 meters
+ *   generation   a number for each generator: its kW, 0 to 20,000,000; 0 to 64
+ *                generators
+ *   areas        how many areas there are, 0 to 16
+ *   area_parts   area by area, a number for each bus: its part of the area in
+ *                millionths, 0 to 1,000,000, an area's totalling 1,000,000;
+ *                areas times buses numbers
+ *   contracts    three numbers for each contract: supplier (a participant, 0
+ *                to 63), area (counted from 0) and kW (0 to 20,000,000); 0 to
+ *                256 contracts, so contracts_len is 0 to 6,144 by 24
+ *   tranches     a number for each participant: tranches won, 0 to 10,000; 64
+ *                numbers, so tranches_len is 512
+ *   out          written: kW of each participant at each bus, participant by
+ *                participant: number p times buses plus b is participant p's
+ *                at bus b; 64 times buses numbers
+ *
+ * What a metered distributor has is the sum of its imports and generation,
+ * split over the buses by their loads; for another the loads stand as they
+ * are. Each contract is split over the buses by its area's parts, by itself,
+ * and its kW there go to the supplier. What then remains at a bus is split
+ * over the participants by tranches won; where there is no tranche at all it
+ * stays with the distributor, who may hold contracts and tranches like others.
+ * Every split is that of wz_split. So at each bus the kW of all participants
+ * add up to what the distributor has there.
+ *
+ *   Metered, loads 100, 200, 300, imports 500, -40, generation 200: the buses
+ *   have 110, 220, 330. A contract of 10 kW in an area of 500,000, 333,333,
+ *   166,667 takes 5, 3, 2 of it; of the rest 3 tranches and 1 tranche take
+ *   79, 163, 246 and 26, 54, 82.
+ *
+ * Refusals, in their order:
+ *
+ *   WZ_LENGTH        the length of a list is no multiple of eight; there are
+ *                    no buses or more than 64, more than 64 tie meters, more
+ *                    than 64 generators; areas is outside its range; there
+ *                    are more than 256 contracts, or one of less than three
+ *                    numbers; or area_parts, tranches or out is shorter or
+ *                    longer than said above
+ *   WZ_RANGE         metered is neither 0 nor 1
+ *   WZ_RANGE         a number is outside its range, of loads, imports,
+ *                    generation, area_parts, the kW of contracts or tranches
+ *   WZ_IDENTITY      distributor is no participant
+ *   WZ_IDENTITY      a contract's supplier is no participant, or its area is
+ *                    none of those given
+ *   WZ_AREA_PARTS    an area's parts don't total 1,000,000, whether a contract
+ *                    names it or not
+ *   WZ_METERED_LOAD  a metered distributor's imports and generation add up to
+ *                    less than 0 or more than 20,000,000
+ *   WZ_NO_SHARES     a metered distributor's imports and generation don't add
+ *                    up to 0 and its loads do
+ *   WZ_CONTRACTS     contracts have more kW at a bus than the distributor
+ */
+uint32_t wz_assign_load(int64_t metered, int64_t distributor,
+                        const uint8_t *loads, size_t loads_len,
+                        const uint8_t *imports, size_t imports_len,
+                        const uint8_t *generation, size_t generation_len,
+                        int64_t areas,
+                        const uint8_t *area_parts, size_t area_parts_len,
+                        const uint8_t *contracts, size_t contracts_len,
+                        const uint8_t *tranches, size_t tranches_len,
+                        uint8_t *out, size_t out_len);
+
 #ifdef __cplusplus
 }
 #endif

@@ -4,10 +4,12 @@ use mathlib.Core.List.{List, [], _∷_}
 use Prim.Native.Nat.{ℕ}
 use lib.IntN.{ℤ, pos, negℤ}
 use lib.ListN.{length}
-use Rattle.ints.specs.Sum.{sumN}
+use Rattle.ints.specs.Sum.{sumTo, sumN}
 use Rattle.ints.specs.Table.{tab, all}
 use Rattle.units.specs.Units.{centsOf}
 use Rattle.split.specs.Split.{total, cutDown, remainder, unitsLeft, before, place, part, parts, refusal}
+use Rattle.load.specs.Load.{busLoads}
+use Rattle.load.specs.Order.{meters}
 
 -- an amount over shares is accepted and has these parts
 abbrev Splits : ℤ → List ℤ → List ℤ → Type 0
@@ -16,6 +18,10 @@ Splits amount shares result = (refusal amount shares (length shares) ≡ 0) × (
 -- an amount over shares is refused
 abbrev Refuses : ℤ → List ℤ → ℕ → Type 0
 Refuses amount shares number = refusal amount shares (length shares) ≡ number
+
+-- a metered distributor's estimator loads, imports and generation are accepted and give these loads at the buses
+abbrev Metered : List ℤ → List ℤ → List ℤ → List ℤ → Type 0
+Metered loads imports generation result = (meters (pos 1) loads imports generation ≡ 0) × (busLoads (pos 1) loads imports generation ≡ result)
 
 pub record Cases : Type 0 where
   -- "P1 10 over 1,1,1 is 4,3,3."
@@ -38,7 +44,11 @@ pub record Cases : Type 0 where
   pub P9 : centsOf (pos 59999) ≡ pos 0
   -- "P10 -60,000 is -1."
   pub P10 : centsOf (negℤ (pos 60000)) ≡ negℤ (pos 1)
+  -- "P11 estimator 100,200,300 and imports 500,-40 with generation 200 give 110,220,330."
+  pub P11 : Metered (pos 100 ∷ pos 200 ∷ pos 300 ∷ []) (pos 500 ∷ negℤ (pos 40) ∷ []) (pos 200 ∷ []) (pos 110 ∷ pos 220 ∷ pos 330 ∷ [])
+  -- "P12 601 metered gives 100,200,301."
+  pub P12 : Metered (pos 100 ∷ pos 200 ∷ pos 300 ∷ []) (pos 601 ∷ []) [] (pos 100 ∷ pos 200 ∷ pos 301 ∷ [])
 
 pub cases : Cases
-unfolding refusal parts part total cutDown remainder unitsLeft before place sumN tab all centsOf
-cases = record { P1 = (refl, refl); P2 = (refl, refl); P3 = (refl, refl); P4 = (refl, refl); P5 = (refl, refl); P6 = (refl, refl); P7 = refl; P8 = refl; P9 = refl; P10 = refl }
+unfolding refusal parts part total cutDown remainder unitsLeft before place sumN sumTo tab all centsOf meters
+cases = record { P1 = (refl, refl); P2 = (refl, refl); P3 = (refl, refl); P4 = (refl, refl); P5 = (refl, refl); P6 = (refl, refl); P7 = refl; P8 = refl; P9 = refl; P10 = refl; P11 = (refl, refl); P12 = (refl, refl) }

@@ -59,6 +59,48 @@ fn run_rounding(amount: i64) {
     print(b" cents\n");
 }
 
+// The load of a metered distributor, participant 0, at three buses: what the participants 0, 1 and 2 get at each, or the refusal.
+fn run_load(
+    loads: &[i64],
+    imports: &[i64],
+    generation: &[i64],
+    areas: i64,
+    area_parts: &[i64],
+    contracts: &[i64],
+    tranches: &[i64],
+) {
+    let mut out = [0i64; 192];
+    print(b"load at");
+    print_list(loads);
+    print(b" metered");
+    print_list(imports);
+    print_list(generation);
+    let refused = load::assign(
+        1,
+        0,
+        loads,
+        imports,
+        generation,
+        areas,
+        area_parts,
+        contracts,
+        tranches,
+        &mut out,
+    );
+    if refused != 0 {
+        print(b": refused");
+        print_item(refused as i64);
+    } else {
+        print(b" is");
+        print_list(&out[0..3]);
+        print(b",");
+        print_list(&out[3..6]);
+        print(b",");
+        print_list(&out[6..9]);
+    }
+    end_line();
+}
+
 fn main() {
     let mut three = [0i64; 3];
     run_split(10, &[1, 1, 1], &mut three);
@@ -75,4 +117,21 @@ fn main() {
     run_rounding(60_000);
     run_rounding(59_999);
     run_rounding(-60_000);
+    let none = [0i64; 64];
+    run_load(&[100, 200, 300], &[500, -40], &[200], 0, &[], &[], &none);
+    run_load(&[100, 200, 300], &[601], &[], 0, &[], &[], &none);
+    let mut tranches = [0i64; 64];
+    tranches[0] = 3;
+    tranches[1] = 1;
+    run_load(
+        &[100, 200, 300],
+        &[500, -40],
+        &[200],
+        1,
+        &[500_000, 333_333, 166_667],
+        &[2, 0, 10],
+        &tranches,
+    );
+    run_load(&[0, 0, 0], &[], &[], 0, &[], &[], &none);
+    run_load(&[0, 0, 0], &[1], &[], 0, &[], &[], &none);
 }
