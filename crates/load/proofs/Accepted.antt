@@ -24,7 +24,7 @@ use Rattle.split.specs.Split.{total}
 use Rattle.split.specs.Given.{Shares}
 use Rattle.load.specs.Load.{supplier, area, kw, count, partsOf, Given, buses}
 use Rattle.load.specs.Order.{counts, lengths, ranges, named, identities, areaTotals, tests}
-use Rattle.load.specs.Given.{Short, Ranged, Areas, Contracts, Auction, Metered}
+use Rattle.load.specs.Facts.{Short, Ranged, Areas, Contracts, Auction, Metered}
 use Rattle.load.proofs.Tables.{row-end}
 use Rattle.load.proofs.Splits.{short-of, length-stretch, splits-of}
 use Rattle.load.proofs.Handed.{minus-natural}

@@ -1,9 +1,9 @@
 -- The loads at the buses, and the assignment as a table. Assumes nothing.
-use mathlib.Core.Path.{_≡_, refl, sym, ap, ap₂, _∙_, subst}
+use mathlib.Core.Path.{_≡_, refl, sym, ap, _∙_, subst}
 use mathlib.Core.Logic.{⊎-elim}
 use mathlib.Core.List.{List}
 use mathlib.Core.Bool.{Bool, true, false}
-use Prim.Native.Nat.{ℕ, _+_, _*_, _/_, _%_, _≤_, _<_}
+use Prim.Native.Nat.{ℕ, _*_, _/_, _%_, _≤_, _<_}
 use native.Mathlib.Nat.{div-add-mod', div-lt-iff-lt-mul, mod-lt}
 use native.Mathlib.Omega.{arith}
 use lib.IntN.{ℤ, pos}
@@ -15,14 +15,13 @@ use Rattle.ints.specs.Table.{_at_, tab}
 use Rattle.ints.proofs.Bools.{either}
 use Rattle.ints.proofs.Eachs.{allTo-ext}
 use Rattle.ints.proofs.Orders.{then-none}
-use Rattle.ints.proofs.Tables.{length-tab, getD-tab, tab-ext}
+use Rattle.ints.proofs.Tables.{length-tab, tab-ext}
 use Rattle.split.specs.Split.{parts}
 use Rattle.split.proofs.Laws.{length-parts}
 use Rattle.load.specs.Load.{isMetered, meteredLoad, busLoads, contracted, Given, buses, assigned, assignment}
 use Rattle.load.specs.Order.{tests, meters, cover, refusal}
 use Rattle.load.specs.Table.{cell}
-use Rattle.load.specs.Given.{Ranged, Splits, Metered}
-use Rattle.load.proofs.Tables.{row-of, column-of, row-end}
+use Rattle.load.specs.Facts.{Ranged, Splits, Metered}
 use Rattle.load.proofs.Splits.{part-ranged, last-line}
 use Rattle.load.proofs.Meters.{unmetered-loads, metered-loads, metered-outside, metered-inside}
 use Rattle.load.proofs.Accepted.{Naturals, ranged-of, tested}
@@ -64,22 +63,13 @@ pub cover-ext : (n : ℕ) (areaParts contracts : List ℤ) (f g : ℕ → ℤ) �
 unfolding cover
 cover-ext n areaParts contracts f g h = ap (λ (t : Bool). unless t 8 0) (allTo-ext _ _ n (λ b l. ap (leZ (contracted n areaParts contracts b)) (h b l)))
 
--- ---- the result, row by row
+-- ---- a table with the numbers of the result
 
-module _ (d : Given) where
-  -- number p * buses + b is participant p's at bus b
-  pub assignment-at : (p b : ℕ) → p < 64 → b < buses d → cell (buses d) (assignment d) p b ≡ assigned d p b
-  unfolding assignment
-  assignment-at p b u l =
-      getD-tab (λ k. assigned d (k / buses d) (k % buses d)) (pos 0) (64 * buses d) (p * buses d + b) (omega (arith, row-end (buses d) p 64 u))
-      ∙ ap₂ (assigned d) (row-of (buses d) p b l) (column-of (buses d) p b l)
-
-  -- a table with these numbers
-  pub assignment-is : (table : List ℤ) → 1 ≤ buses d → ((p b : ℕ) → p < 64 → b < buses d → cell (buses d) table p b ≡ assigned d p b) → tab (λ k. table at k) (64 * buses d) ≡ assignment d
-  unfolding assignment
-  assignment-is table some h =
-      tab-ext _ _ (64 * buses d)
-      (λ k l. ap (λ (i : ℕ). table at i) (sym (div-add-mod' k (buses d))) ∙ h (k / buses d) (k % buses d) (div-lt-iff-lt-mul some .1 l) (mod-lt k some))
+pub assignment-is : (d : Given) (table : List ℤ) → 1 ≤ buses d → ((p b : ℕ) → p < 64 → b < buses d → cell (buses d) table p b ≡ assigned d p b) → tab (λ k. table at k) (64 * buses d) ≡ assignment d
+unfolding assignment
+assignment-is d table some h =
+    tab-ext _ _ (64 * buses d)
+    (λ k l. ap (λ (i : ℕ). table at i) (sym (div-add-mod' k (buses d))) ∙ h (k / buses d) (k % buses d) (div-lt-iff-lt-mul some .1 l) (mod-lt k some))
 
 -- an accepted assignment is as long as the list lent for it
 pub length-assignment : (d : Given) (n : ℕ) → refusal d n ≡ 0 → length (assignment d) ≡ n

@@ -21,7 +21,7 @@ use Rattle.ints.proofs.Sums.{sumTo-zero, sumTo-next, sumTo-ext, sumTo-abs}
 use Rattle.split.specs.Split.{total, part, parts}
 use Rattle.load.specs.Load.{supplier, area, kw, count, partsOf, contractAt, contracted, auctioned}
 use Rattle.load.specs.Table.{Cells, Added}
-use Rattle.load.specs.Given.{Splits, Tables, Contracts, Empty, Auction, Ranged, Remainings}
+use Rattle.load.specs.Facts.{Splits, Tables, Contracts, Empty, Auction, Ranged, Remainings}
 use Rattle.load.proofs.Tables.{only-within, added-none, added-then, added-same, added-cells}
 use Rattle.load.proofs.Splits.{length-stretch, part-within, part-natural, splits-of}
 

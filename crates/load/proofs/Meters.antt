@@ -18,7 +18,7 @@ use Rattle.split.specs.Split.{total, parts}
 use Rattle.split.proofs.Accepted.{fromTotal}
 use Rattle.load.specs.Load.{isMetered, sum, meteredLoad, busLoads}
 use Rattle.load.specs.Order.{meters}
-use Rattle.load.specs.Given.{Short}
+use Rattle.load.specs.Facts.{Short}
 
 module _ (metered : ℤ) (loads imports generation : List ℤ) where
   abbrev load : ℤ

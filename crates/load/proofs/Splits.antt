@@ -25,7 +25,7 @@ use Rattle.split.proofs.Accepted.{accepted, fromTotal, with-total}
 use Rattle.split.proofs.Laws.{length-parts, part-sum, no-size}
 use Rattle.load.specs.Load.{sum, partsOf}
 use Rattle.load.specs.Table.{InRange}
-use Rattle.load.specs.Given.{Short, Splits, Portion, Ranged}
+use Rattle.load.specs.Facts.{Short, Splits, Portion, Ranged}
 
 -- the sum of shares is their total
 pub short-of : {shares : List ℤ} → Shares shares → Short shares

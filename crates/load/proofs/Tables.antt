@@ -149,9 +149,6 @@ module _ {n : ℕ} where
   pub added-cells : {f : ℕ → ℕ → ℤ} {before after : List ℤ} {k m : ℕ} (most : ℕ) → Added n f before after → Cells n before k → ((p b : ℕ) → p < 64 → b < n → Within (f p b) m) → k + m ≤ most → Cells n after most
   added-cells most x c w h = record { each = λ p b u l. subst (λ (z : ℤ). Within z most) (sym (x .each p b u l)) (w-up (w-add (c .each p b u l) (w p b u l)) h) }
 
-  pub cells-up : {table : List ℤ} {k : ℕ} (most : ℕ) → Cells n table k → k ≤ most → Cells n table most
-  cells-up most c h = record { each = λ p b u l. w-up (c .each p b u l) h }
-
 -- ---- there is room along a row and along a column
 
 -- row q lies within the first m rows

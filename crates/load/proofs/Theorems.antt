@@ -3,7 +3,7 @@
 use mathlib.Core.Path.{_≡_, refl, sym, ap, ap₂, _∙_, subst}
 use mathlib.Core.Logic.{_⊎_, inl, inr, ⊎-elim}
 use mathlib.Core.Bool.{Bool, true, false}
-use Prim.Native.Nat.{ℕ, _+_, _<_}
+use Prim.Native.Nat.{ℕ, _+_, _*_, _/_, _%_, _<_}
 use native.Mathlib.Omega.{arith}
 use lib.Dec.{eqb}
 use lib.IntN.{ℤ, pos, natAbs, _+ℤ_, _-ℤ_}
@@ -20,12 +20,15 @@ use Rattle.ints.proofs.Eachs.{allTo-at}
 use Rattle.ints.proofs.Orders.{then-none}
 use Rattle.ints.proofs.Refusals.{passed}
 use Rattle.ints.proofs.Sums.{sumTo-ext, sumTo-plus, sumTo-swap, sumTo-only}
+use Rattle.ints.proofs.Tables.{getD-tab}
 use Rattle.split.specs.Split.{total, parts}
 use Rattle.split.specs.Fair.{Fair}
 use Rattle.split.proofs.Demand3.{fair}
-use Rattle.load.specs.Load.{isMetered, meteredLoad, busLoads, supplier, area, kw, count, partsOf, contractParts, contractAt, contractLoad, contracted, auctioned, Given, buses, busLoad, rest, assigned}
+use Rattle.load.specs.Load.{isMetered, meteredLoad, busLoads, supplier, area, kw, count, partsOf, contractParts, contractAt, contractLoad, contracted, auctioned, Given, buses, busLoad, rest, assigned, assignment}
 use Rattle.load.specs.Order.{tests, meters, cover, refusal}
-use Rattle.load.specs.Given.{Ranged, Splits}
+use Rattle.load.specs.Facts.{Ranged, Splits}
+use Rattle.load.specs.Table.{cell}
+use Rattle.load.proofs.Tables.{row-end, row-of, column-of}
 use Rattle.load.proofs.Splits.{part-ranged}
 use Rattle.load.proofs.Meters.{metered-loads}
 use Rattle.load.proofs.Handed.{stays, is-shared, splits-over, contract-natural, contracted-natural, left-ranged, natural-sum}
@@ -142,3 +145,11 @@ module _ (d : Given) (n : ℕ) (accepts : refusal d n ≡ 0) where
 
   pub metered-total : isMetered (d .metered) ≡ true → sumTo (busLoad d) (buses d) ≡ meteredLoad (d .imports) (d .generation)
   metered-total on = metered-fair on .adds-up
+
+-- ---- the result is participant by participant: number p * buses + b is what participant p is assigned at bus b
+
+pub assignment-at : (d : Given) (p b : ℕ) → p < 64 → b < buses d → cell (buses d) (assignment d) p b ≡ assigned d p b
+unfolding assignment
+assignment-at d p b u l =
+    getD-tab (λ k. assigned d (k / buses d) (k % buses d)) (pos 0) (64 * buses d) (p * buses d + b) (omega (arith, row-end (buses d) p 64 u))
+    ∙ ap₂ (assigned d) (row-of (buses d) p b l) (column-of (buses d) p b l)

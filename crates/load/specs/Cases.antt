@@ -4,10 +4,11 @@ use mathlib.Core.Path.{_≡_, refl}
 use lib.IntN.{pos, negℤ}
 use lib.ListN.{replicate}
 use Rattle.ints.specs.Sum.{sumTo, sumN}
-use Rattle.ints.specs.Table.{tab}
+use Rattle.ints.specs.Table.{tab, all}
+use Rattle.ints.specs.Each.{allTo}
 use Rattle.split.specs.Split.{total, cutDown, remainder, unitsLeft, before, place, part, parts}
 use Rattle.load.specs.Load.{busLoads, contractAt, auctioned, Given, given, assigned}
-use Rattle.load.specs.Order.{meters}
+use Rattle.load.specs.Order.{counts, lengths, ranges, identities, areaTotals, meters, cover, refusal}
 
 -- "P11 estimator 100,200,300 and imports 500,-40 with generation 200 give 110,220,330."
 pub P11 : busLoads (pos 1) (pos 100 ∷ pos 200 ∷ pos 300 ∷ []) (pos 500 ∷ negℤ (pos 40) ∷ []) (pos 200 ∷ []) ≡ pos 110 ∷ pos 220 ∷ pos 330 ∷ []
@@ -46,3 +47,8 @@ nothing = refl
 pub nowhere : meters (pos 1) (pos 0 ∷ pos 0 ∷ []) (pos 1 ∷ []) [] ≡ 7
 unfolding sumTo sumN total meters
 nowhere = refl
+
+-- that distributor's assignment is accepted
+pub passes : refusal case 192 ≡ 0
+unfolding sumTo sumN all allTo tab total cutDown remainder unitsLeft before place part parts contractAt counts lengths ranges identities areaTotals meters cover refusal
+passes = refl

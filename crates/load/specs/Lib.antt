@@ -1,5 +1,5 @@
 pub mod Load
 pub mod Order
 pub mod Table
-pub mod Given
+pub mod Facts
 pub mod Cases

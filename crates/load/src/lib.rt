@@ -16,7 +16,9 @@ ghost use Rattle.split.specs.Given.{Shares};
 ghost use Rattle.load.specs.Load.{sum, supplier, kw, count, partsOf, contractAt, contractLoad, contracted as Load·contracted, auctioned, busLoads, given};
 ghost use Rattle.load.specs.Order.{named as Order·named, counts, lengths, ranges, identities, areaTotals, meters, cover, tests, refusal, outcome};
 ghost use Rattle.load.specs.Table.{Room, Spread, Cells, Added};
-ghost use Rattle.load.specs.Given.{Short, Splits, Portion, Areas, Tables, Contracts, Empty, Auction, Ranged, Remainings, Loads, Metered, handed as Given·handed};
+ghost use Rattle.load.specs.Facts.{Short, Splits, Portion, Areas, Tables, Contracts, Empty, Auction, Ranged, Remainings, Loads, Metered, handed as Facts·handed};
+
+// ---- Lists and the table.
 
 // The sum of a list.
 fn sum_of(list: &[i64]) -> i64
@@ -32,45 +34,24 @@ fn sum_of(list: &[i64]) -> i64
     total
 }
 
-// Whether every contract's kW is in range.
-fn kw_between(contracts: &[i64]) -> bool
-    ensures { λ r. ⌜ r ≡ allTo (λ j. between (pos 0) (pos 20000000) (kw (now (contracts .entry)) j)) (count (now (contracts .entry))) ⌝ }
+// The size of a number of a list.
+fn size_at(list: &[i64], i: usize) -> usize
+    requires { ⌜ i < length (now list) ⌝ }
+    ensures { λ r. ⌜ r ≡ natAbs (now (list .entry) at i) ⌝ }
 {
-    let n = contracts.len() / 3;
-    let mut j: usize = 0;
-    while j < n {
-        if !ints::is_between(contracts[3 * j + 2], 0, 20_000_000) {
-            return false;
-        }
-        j += 1;
-    }
-    true
+    ints::size(list[i]) as usize
 }
 
-// Whether contract j names a participant and an area.
-fn is_named(contracts: &[i64], j: usize, areas: i64) -> bool
-    requires { ⌜ j < count (now contracts) ⌝ }
-    requires { ⌜ Within areas 16 ⌝ }
-    ensures { λ r. ⌜ r ≡ Order·named areas (now (contracts .entry)) j ⌝ }
+// A list copied into another.
+fn copy(from: &[i64], to: &mut [i64])
+    requires { ⌜ length (now to) ≤ length (now from) ⌝ }
+    ensures { λ _. ⌜ now (to .exit) ≡ tab (λ i. now (from .entry) at i) (length (now (to .entry))) ⌝ }
 {
-    ints::is_between(contracts[3 * j], 0, 63)
-        && ints::is_between(contracts[3 * j + 1], 0, areas - 1)
-}
-
-// Whether every contract does.
-fn all_named(contracts: &[i64], areas: i64) -> bool
-    requires { ⌜ Within areas 16 ⌝ }
-    ensures { λ r. ⌜ r ≡ allTo (Order·named areas (now (contracts .entry))) (count (now (contracts .entry))) ⌝ }
-{
-    let n = contracts.len() / 3;
-    let mut j: usize = 0;
-    while j < n {
-        if !is_named(contracts, j, areas) {
-            return false;
-        }
-        j += 1;
+    let mut i: usize = 0;
+    while i < to.len() {
+        to[i] = from[i];
+        i += 1;
     }
-    true
 }
 
 // A number of a table becomes z larger.
@@ -112,47 +93,33 @@ fn portion(amount: i64, shares: &[i64], made: &mut [i64])
     split_into(amount, shares, made);
 }
 
-// A list copied into another.
-fn copy(from: &[i64], to: &mut [i64])
-    requires { ⌜ length (now to) ≤ length (now from) ⌝ }
-    ensures { λ _. ⌜ now (to .exit) ≡ tab (λ i. now (from .entry) at i) (length (now (to .entry))) ⌝ }
+// ---- Step 1: the load at each bus.
+
+// The load at each bus, into the front of a list: the answer is 6 or 7 where there is none.
+fn bus_loads(
+    metered: i64,
+    loads: &[i64],
+    imports: &[i64],
+    generation: &[i64],
+    served: &mut [i64],
+) -> u32
+    requires { ⌜ Metered (now loads) (now imports) (now generation) × (length (now served) ≡ 64) ⌝ }
+    ensures { λ r. ⌜ r ≡ meters metered (now (loads .entry)) (now (imports .entry)) (now (generation .entry)) ⌝ }
+    ensures { λ r. ⌜ now (served .exit) ≡ lent r (busLoads metered (now (loads .entry)) (now (imports .entry)) (now (generation .entry)) ++ drop (length (now (loads .entry))) (now (served .entry))) (now (served .entry)) ⌝ }
 {
-    let mut i: usize = 0;
-    while i < to.len() {
-        to[i] = from[i];
-        i += 1;
+    if ints::size(metered) != 1 {
+        let n = loads.len();
+        copy(loads, &mut served[..n]);
+        return 0;
     }
-}
-
-// Whether x is at most y.
-fn at_most(x: i64, y: i64) -> bool
-    ensures { λ r. ⌜ r ≡ leZ x y ⌝ }
-{
-    x <= y
-}
-
-// Whether the contracts are within the load at each of n buses.
-fn covered(contracted: &[i64], loads: &[i64], n: usize) -> bool
-    requires { ⌜ (n ≤ length (now contracted)) × (n ≤ length (now loads)) ⌝ }
-    ensures { λ r. ⌜ r ≡ allTo (λ b. leZ (now (contracted .entry) at b) (now (loads .entry) at b)) n ⌝ }
-{
-    let mut b: usize = 0;
-    while b < n {
-        if !at_most(contracted[b], loads[b]) {
-            return false;
-        }
-        b += 1;
+    let load = sum_of(imports) + sum_of(generation);
+    if !ints::is_between(load, 0, 20_000_000) {
+        return 6;
     }
-    true
+    split_into(load, loads, served)
 }
 
-// The size of a number of a list.
-fn size_at(list: &[i64], i: usize) -> usize
-    requires { ⌜ i < length (now list) ⌝ }
-    ensures { λ r. ⌜ r ≡ natAbs (now (list .entry) at i) ⌝ }
-{
-    ints::size(list[i]) as usize
-}
+// ---- Step 2: each contract, by itself.
 
 // The parts of an area, for n buses.
 fn parts_of(n: usize, a: usize, millionths: &[i64]) -> &[i64]
@@ -162,29 +129,6 @@ fn parts_of(n: usize, a: usize, millionths: &[i64]) -> &[i64]
     let k = a * n;
     let e = k + n;
     &millionths[k..e]
-}
-
-// Whether an area's parts total a million.
-fn is_whole(parts: &[i64]) -> bool
-    requires { ⌜ Shares (now parts) ⌝ }
-    ensures { λ r. ⌜ r ≡ eqb (total (now (parts .entry))) 1000000 ⌝ }
-{
-    ints::size(sum_of(parts)) == 1_000_000
-}
-
-// Whether every area's do, for n buses.
-fn all_whole(areas: usize, n: usize, millionths: &[i64]) -> bool
-    requires { ⌜ Areas areas n (now millionths) ⌝ }
-    ensures { λ r. ⌜ r ≡ allTo (λ a. eqb (total (partsOf n (now (millionths .entry)) a)) 1000000) areas ⌝ }
-{
-    let mut a: usize = 0;
-    while a < areas {
-        if !is_whole(parts_of(n, a, millionths)) {
-            return false;
-        }
-        a += 1;
-    }
-    true
 }
 
 // A contract's parts added to its supplier's row and to what is contracted.
@@ -246,6 +190,8 @@ fn hand_contracts(
     }
 }
 
+// ---- Step 3: what remains at each bus.
+
 // What remains at a bus: over the winners of tranches, and to the distributor where there are none.
 fn hand_rest(
     bus: usize,
@@ -289,53 +235,7 @@ fn hand_rests(
     }
 }
 
-// Steps 2 and 3: the contracts, and what remains at each of n buses.
-fn hand_out(
-    n: usize,
-    loads: &[i64],
-    millionths: &[i64],
-    contracts: &[i64],
-    distributor: usize,
-    tranches: &[i64],
-    table: &mut [i64],
-) -> u32
-    requires { ⌜ Contracts n (now millionths) (now contracts) × Auction n distributor (now tranches) ⌝ }
-    requires { ⌜ Loads n (now loads) × (length (now table) ≡ 4096) × Cells n (now table) 0 ⌝ }
-    ensures { λ r. ⌜ r ≡ cover n (now (millionths .entry)) (now (contracts .entry)) (λ b. now (loads .entry) at b) ⌝ }
-    ensures { λ r. ⌜ (r ≡ 0 → Added n (Given·handed n (now (millionths .entry)) (now (contracts .entry)) distributor (now (tranches .entry)) (λ b. now (loads .entry) at b)) (now (table .entry)) (now (table .exit))) ⌝ }
-{
-    let mut contracted = [0i64; 64];
-    hand_contracts(n, millionths, contracts, table, &mut contracted);
-    if !covered(&contracted, loads, n) {
-        return 8;
-    }
-    hand_rests(n, loads, &contracted, distributor, tranches, table);
-    0
-}
-
-// Step 1: the load at each bus, into the front of a list.
-fn bus_loads(
-    metered: i64,
-    loads: &[i64],
-    imports: &[i64],
-    generation: &[i64],
-    served: &mut [i64],
-) -> u32
-    requires { ⌜ Metered (now loads) (now imports) (now generation) × (length (now served) ≡ 64) ⌝ }
-    ensures { λ r. ⌜ r ≡ meters metered (now (loads .entry)) (now (imports .entry)) (now (generation .entry)) ⌝ }
-    ensures { λ r. ⌜ now (served .exit) ≡ lent r (busLoads metered (now (loads .entry)) (now (imports .entry)) (now (generation .entry)) ++ drop (length (now (loads .entry))) (now (served .entry))) (now (served .entry)) ⌝ }
-{
-    if ints::size(metered) != 1 {
-        let n = loads.len();
-        copy(loads, &mut served[..n]);
-        return 0;
-    }
-    let load = sum_of(imports) + sum_of(generation);
-    if !ints::is_between(load, 0, 20_000_000) {
-        return 6;
-    }
-    split_into(load, loads, served)
-}
+// ---- The order of refusals, 1 to 5 and 8.
 
 // 1: counts.
 fn test_counts(
@@ -395,6 +295,21 @@ fn test_lengths(
     0
 }
 
+// Whether every contract's kW is in range.
+fn kw_between(contracts: &[i64]) -> bool
+    ensures { λ r. ⌜ r ≡ allTo (λ j. between (pos 0) (pos 20000000) (kw (now (contracts .entry)) j)) (count (now (contracts .entry))) ⌝ }
+{
+    let n = contracts.len() / 3;
+    let mut j: usize = 0;
+    while j < n {
+        if !ints::is_between(contracts[3 * j + 2], 0, 20_000_000) {
+            return false;
+        }
+        j += 1;
+    }
+    true
+}
+
 // 2: ranges.
 fn test_ranges(
     metered: i64,
@@ -431,6 +346,32 @@ fn test_ranges(
     0
 }
 
+// Whether contract j names a participant and an area.
+fn is_named(contracts: &[i64], j: usize, areas: i64) -> bool
+    requires { ⌜ j < count (now contracts) ⌝ }
+    requires { ⌜ Within areas 16 ⌝ }
+    ensures { λ r. ⌜ r ≡ Order·named areas (now (contracts .entry)) j ⌝ }
+{
+    ints::is_between(contracts[3 * j], 0, 63)
+        && ints::is_between(contracts[3 * j + 1], 0, areas - 1)
+}
+
+// Whether every contract does.
+fn all_named(contracts: &[i64], areas: i64) -> bool
+    requires { ⌜ Within areas 16 ⌝ }
+    ensures { λ r. ⌜ r ≡ allTo (Order·named areas (now (contracts .entry))) (count (now (contracts .entry))) ⌝ }
+{
+    let n = contracts.len() / 3;
+    let mut j: usize = 0;
+    while j < n {
+        if !is_named(contracts, j, areas) {
+            return false;
+        }
+        j += 1;
+    }
+    true
+}
+
 // 3: identities.
 fn test_identities(distributor: i64, areas: i64, contracts: &[i64]) -> u32
     requires { ⌜ Within areas 16 ⌝ }
@@ -443,6 +384,29 @@ fn test_identities(distributor: i64, areas: i64, contracts: &[i64]) -> u32
         return 3;
     }
     0
+}
+
+// Whether an area's parts total a million.
+fn is_whole(parts: &[i64]) -> bool
+    requires { ⌜ Shares (now parts) ⌝ }
+    ensures { λ r. ⌜ r ≡ eqb (total (now (parts .entry))) 1000000 ⌝ }
+{
+    ints::size(sum_of(parts)) == 1_000_000
+}
+
+// Whether every area's do, for n buses.
+fn all_whole(areas: usize, n: usize, millionths: &[i64]) -> bool
+    requires { ⌜ Areas areas n (now millionths) ⌝ }
+    ensures { λ r. ⌜ r ≡ allTo (λ a. eqb (total (partsOf n (now (millionths .entry)) a)) 1000000) areas ⌝ }
+{
+    let mut a: usize = 0;
+    while a < areas {
+        if !is_whole(parts_of(n, a, millionths)) {
+            return false;
+        }
+        a += 1;
+    }
+    true
 }
 
 // 5: the areas' totals, for n buses.
@@ -496,6 +460,54 @@ fn test_given(
         return named;
     }
     test_areas(loads.len(), areas, millionths)
+}
+
+// Whether x is at most y.
+fn at_most(x: i64, y: i64) -> bool
+    ensures { λ r. ⌜ r ≡ leZ x y ⌝ }
+{
+    x <= y
+}
+
+// Whether the contracts are within the load at each of n buses.
+fn covered(contracted: &[i64], loads: &[i64], n: usize) -> bool
+    requires { ⌜ (n ≤ length (now contracted)) × (n ≤ length (now loads)) ⌝ }
+    ensures { λ r. ⌜ r ≡ allTo (λ b. leZ (now (contracted .entry) at b) (now (loads .entry) at b)) n ⌝ }
+{
+    let mut b: usize = 0;
+    while b < n {
+        if !at_most(contracted[b], loads[b]) {
+            return false;
+        }
+        b += 1;
+    }
+    true
+}
+
+// ---- The assignment.
+
+// Steps 2 and 3 at n buses: the answer is 8 where the contracts exceed a load.
+fn hand_out(
+    n: usize,
+    loads: &[i64],
+    millionths: &[i64],
+    contracts: &[i64],
+    distributor: usize,
+    tranches: &[i64],
+    table: &mut [i64],
+) -> u32
+    requires { ⌜ Contracts n (now millionths) (now contracts) × Auction n distributor (now tranches) ⌝ }
+    requires { ⌜ Loads n (now loads) × (length (now table) ≡ 4096) × Cells n (now table) 0 ⌝ }
+    ensures { λ r. ⌜ r ≡ cover n (now (millionths .entry)) (now (contracts .entry)) (λ b. now (loads .entry) at b) ⌝ }
+    ensures { λ r. ⌜ (r ≡ 0 → Added n (Facts·handed n (now (millionths .entry)) (now (contracts .entry)) distributor (now (tranches .entry)) (λ b. now (loads .entry) at b)) (now (table .entry)) (now (table .exit))) ⌝ }
+{
+    let mut contracted = [0i64; 64];
+    hand_contracts(n, millionths, contracts, table, &mut contracted);
+    if !covered(&contracted, loads, n) {
+        return 8;
+    }
+    hand_rests(n, loads, &contracted, distributor, tranches, table);
+    0
 }
 
 // The load at the buses of one distributor, assigned to 64 participants. Areas' parts are in millionths.

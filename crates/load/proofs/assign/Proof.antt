@@ -3,7 +3,7 @@ use Rattle.load.specs.Table.{cell}
 use Rattle.load.proofs.Assigned.{length-bus-loads, bus-load-ranged, cover-ext, assignment-is}
 use Rattle.load.proofs.Accepted.{Tested, tested, naturals-of}
 use Rattle.load.proofs.Tables.{zero-cells, added-zeros}
-use Rattle.load.specs.Given.{Ranged, Auction, Loads}
+use Rattle.load.specs.Facts.{Ranged, Auction, Loads}
 use Rattle.load.specs.Order.{meters, cover, tests, refusal}
 use Rattle.load.specs.Load.{Given, given, buses, contractLoad, contracted, auctioned, busLoads, busLoad, assigned, assignment}
 use Rattle.ints.proofs.Refusals.{lent-result, kept, done}

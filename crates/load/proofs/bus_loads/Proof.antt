@@ -1,7 +1,7 @@
 -- `load::bus_loads` meets its contract. Assumes nothing.
 use Rattle.load.proofs.Meters.{unmetered-answer, unmetered-loads, metered-loads, metered-outside, metered-inside, sum-within, tab-at}
 use Rattle.load.proofs.Splits.{last-line}
-use Rattle.load.specs.Given.{Ranged}
+use Rattle.load.specs.Facts.{Ranged}
 use Rattle.load.specs.Load.{isMetered, meteredLoad}
 use Rattle.split.specs.Split.{refusal, parts}
 use Rattle.ints.proofs.Tests.{between-natural}

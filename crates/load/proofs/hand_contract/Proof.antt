@@ -1,7 +1,7 @@
 -- `load::hand_contract` meets its contract. Assumes nothing.
 use Rattle.load.proofs.Splits.{length-stretch}
 use Rattle.load.proofs.Tables.{added-same}
-use Rattle.load.specs.Given.{Splits, Tables}
+use Rattle.load.specs.Facts.{Splits, Tables}
 use Rattle.load.specs.Table.{Added}
 use Rattle.load.specs.Load.{supplier, area, kw, partsOf, contractAt}
 use Rattle.split.specs.Split.{parts}

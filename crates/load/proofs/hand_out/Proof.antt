@@ -3,7 +3,7 @@ use Rattle.load.proofs.Tables.{added-zeros, zero-cells, added-then, add
 use Rattle.ints.specs.Sum.{only}
 use lib.Dec.{eqb}
 use Rattle.load.proofs.Handed.{load-within, left-ranged, contracted-natural}
-use Rattle.load.specs.Given.{Ranged}
+use Rattle.load.specs.Facts.{Ranged}
 use Rattle.load.specs.Order.{cover}
 use Rattle.load.specs.Load.{contracted as Load·contracted, contractLoad, count, auctioned}
 use Rattle.ints.proofs.Eachs.{allTo-ext, allTo-at}

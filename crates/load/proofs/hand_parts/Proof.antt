@@ -1,7 +1,7 @@
 -- `load::hand_parts` meets its contract. Assumes nothing.
 use Rattle.load.proofs.Tables.{row-added, row-room, row-end, added-same}
 use Rattle.load.proofs.Splits.{portion-range}
-use Rattle.load.specs.Given.{Splits, Portion}
+use Rattle.load.specs.Facts.{Splits, Portion}
 use Rattle.load.specs.Table.{Room, Spread, Added}
 use Rattle.split.proofs.Accepted.{accepted}
 use Rattle.split.specs.Split.{parts}

@@ -2,7 +2,7 @@
 use Rattle.load.proofs.Handed.{stays, is-shared, splits-over}
 use Rattle.load.proofs.Tables.{rows-fit, cell-added, column-added, column-room, added-same}
 use Rattle.load.proofs.Splits.{short-of, sum-total, portion-range}
-use Rattle.load.specs.Given.{Splits, Portion}
+use Rattle.load.specs.Facts.{Splits, Portion}
 use Rattle.load.specs.Table.{InRange, Added}
 use Rattle.split.specs.Split.{total}
 use Rattle.ints.proofs.Sizes.{w-up}

@@ -1,6 +1,6 @@
 -- `load::hand_rests` meets its contract. Assumes nothing.
 use Rattle.load.proofs.Handed.{firstRest, rests-none, rests-next, rests-done, rests-small}
-use Rattle.load.specs.Given.{Ranged}
+use Rattle.load.specs.Facts.{Ranged}
 use Rattle.load.specs.Table.{Added}
 use Rattle.load.specs.Load.{auctioned}
 use Rattle.ints.proofs.Sizes.{w-fits}

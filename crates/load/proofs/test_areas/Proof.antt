@@ -1,7 +1,7 @@
 -- `load::test_areas` meets its contract. Assumes nothing.
 use mathlib.Core.Path.{subst, _≡_, sym, ap, _∙_}
 use Rattle.split.specs.Split.{total}
-use Rattle.load.specs.Given.{Areas}
+use Rattle.load.specs.Facts.{Areas}
 use Rattle.load.specs.Load.{partsOf}
 use Rattle.load.specs.Order.{areaTotals}
 use lib.Dec.{eqb}

@@ -1,6 +1,6 @@
 -- `load::test_given` meets its contract. Assumes nothing.
 use Rattle.load.proofs.Accepted.{Counted, counted, measured, in-ranges, areas-of}
-use Rattle.load.specs.Given.{Areas}
+use Rattle.load.specs.Facts.{Areas}
 use Rattle.load.specs.Order.{counts, lengths, ranges, identities, areaTotals}
 use Rattle.ints.proofs.Orders.{then-later, then-first}
 use Rattle.ints.specs.Order.{_then_}

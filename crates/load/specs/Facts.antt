@@ -1,4 +1,4 @@
--- What the functions of the assignment hand to one another. Assumes nothing.
+-- What the functions of the assignment know of what they hand to one another. Assumes nothing.
 use mathlib.Core.Path.{_≡_}
 use mathlib.Core.List.{List}
 use Prim.Native.Nat.{ℕ, _+_, _*_, _≤_, _<_}
