@@ -10,5 +10,4 @@ pub mod Refusals
 pub mod Unique
 pub mod Turns
 pub mod Members
-pub mod Orders
 pub mod Eachs

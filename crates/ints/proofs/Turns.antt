@@ -13,10 +13,10 @@ use Rattle.ints.specs.Turn.{_then_, inTurn, answer}
 -- ---- two orders
 
 module _ (earlier later : ℕ) where
-  then-later : earlier ≡ 0 → (earlier then later) ≡ later
+  pub then-later : earlier ≡ 0 → (earlier then later) ≡ later
   then-later e = ap (λ (b : Bool). pick b later earlier) (eq-eqb earlier 0 e)
 
-  then-earlier : (earlier ≡ 0 → ⊥) → (earlier then later) ≡ earlier
+  pub then-earlier : (earlier ≡ 0 → ⊥) → (earlier then later) ≡ earlier
   then-earlier some = ap (λ (b : Bool). pick b later earlier) (ne-eqb earlier 0 some)
 
   -- the answer r of a call that goes by the earlier order: it ends there, or the later order follows

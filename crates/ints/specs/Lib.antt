@@ -4,5 +4,4 @@ pub mod Table
 pub mod Refusal
 pub mod Twos
 pub mod Turn
-pub mod Order
 pub mod Each

@@ -1,7 +1,7 @@
 -- What the order of refusals tells of what it accepts, group by group. Assumes nothing.
 use mathlib.Core.Path.{_≡_, sym, ap, _∙_}
-use mathlib.Core.List.{List}
 use mathlib.Core.Bool.{true}
+use mathlib.Core.List.{List}
 use Prim.Native.Nat.{ℕ, zero, suc, _+_, _*_, _-_, _%_, _≤_, _<_}
 use native.Mathlib.Decide.{decLt}
 use native.Mathlib.Omega.{arith}
@@ -16,18 +16,18 @@ use Rattle.ints.specs.Number.{Within, between}
 use Rattle.ints.specs.Table.{_at_, all}
 use Rattle.ints.proofs.Bools.{and-true, not-both}
 use Rattle.ints.proofs.Eachs.{allTo-at}
-use Rattle.ints.proofs.Orders.{then-none}
 use Rattle.ints.proofs.Refusals.{passed}
 use Rattle.ints.proofs.Tables.{all-at}
 use Rattle.ints.proofs.Tests.{between-size, between-natural}
-use Rattle.split.specs.Split.{total}
+use Rattle.ints.proofs.Turns.{then-none}
 use Rattle.split.specs.Given.{Shares}
+use Rattle.split.specs.Split.{total}
+use Rattle.load.specs.Facts.{Short, Ranged, Areas, Contracts, Auction, Metered}
 use Rattle.load.specs.Load.{supplier, area, kw, count, partsOf, Given, buses}
 use Rattle.load.specs.Order.{counts, lengths, ranges, named, identities, areaTotals, tests}
-use Rattle.load.specs.Facts.{Short, Ranged, Areas, Contracts, Auction, Metered}
-use Rattle.load.proofs.Tables.{row-end}
-use Rattle.load.proofs.Splits.{short-of, length-stretch, splits-of}
 use Rattle.load.proofs.Handed.{minus-natural}
+use Rattle.load.proofs.Splits.{short-of, length-stretch, splits-of}
+use Rattle.load.proofs.Tables.{row-end}
 
 -- ---- the groups
 

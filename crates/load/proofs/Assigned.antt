@@ -1,8 +1,8 @@
 -- The loads at the buses, and the assignment as a table. Assumes nothing.
 use mathlib.Core.Path.{_≡_, refl, sym, ap, _∙_, subst}
 use mathlib.Core.Logic.{⊎-elim}
-use mathlib.Core.List.{List}
 use mathlib.Core.Bool.{Bool, true, false}
+use mathlib.Core.List.{List}
 use Prim.Native.Nat.{ℕ, _*_, _/_, _%_, _≤_, _<_}
 use native.Mathlib.Nat.{div-add-mod', div-lt-iff-lt-mul, mod-lt}
 use native.Mathlib.Omega.{arith}
@@ -14,17 +14,17 @@ use Rattle.ints.specs.Refusal.{pick, unless}
 use Rattle.ints.specs.Table.{_at_, tab}
 use Rattle.ints.proofs.Bools.{either}
 use Rattle.ints.proofs.Eachs.{allTo-ext}
-use Rattle.ints.proofs.Orders.{then-none}
 use Rattle.ints.proofs.Tables.{length-tab, tab-ext}
+use Rattle.ints.proofs.Turns.{then-none}
 use Rattle.split.specs.Split.{parts}
 use Rattle.split.proofs.Laws.{length-parts}
+use Rattle.load.specs.Facts.{Ranged, Splits, Metered}
 use Rattle.load.specs.Load.{isMetered, meteredLoad, busLoads, contracted, Given, buses, assigned, assignment}
 use Rattle.load.specs.Order.{tests, meters, cover, refusal}
 use Rattle.load.specs.Table.{cell}
-use Rattle.load.specs.Facts.{Ranged, Splits, Metered}
-use Rattle.load.proofs.Splits.{part-ranged, last-line}
-use Rattle.load.proofs.Meters.{unmetered-loads, metered-loads, metered-outside, metered-inside}
 use Rattle.load.proofs.Accepted.{Naturals, ranged-of, tested}
+use Rattle.load.proofs.Meters.{unmetered-loads, metered-loads, metered-outside, metered-inside}
+use Rattle.load.proofs.Splits.{part-ranged, last-line}
 
 -- ---- step 1
 

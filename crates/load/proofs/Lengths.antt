@@ -9,9 +9,9 @@ use lib.Dec.{leb, eqb}
 use lib.IntN.{pos, natAbs}
 use lib.ListN.{length}
 use Rattle.ints.specs.Number.{between}
-use Rattle.ints.specs.Order.{_then_}
 use Rattle.ints.specs.Refusal.{unless}
-use Rattle.ints.proofs.Orders.{then-later, then-first}
+use Rattle.ints.specs.Turn.{_then_}
+use Rattle.ints.proofs.Turns.{then-later, then-earlier}
 use Rattle.load.specs.Load.{count, Given}
 use Rattle.load.specs.Order.{counts, lengths, tests, refusal}
 use Rattle.load.proofs.Accepted.{Counted, counted, Measured, measured}
@@ -33,7 +33,7 @@ same-number false k e = inr refl
 
 -- a group that gives 1
 first-one : (first later : ℕ) → first ≡ 1 → (first then later) ≡ 1
-first-one first later e = then-first first later (λ z. not-none (sym e ∙ z)) ∙ e
+first-one first later e = then-earlier first later (λ z. not-none (sym e ∙ z)) ∙ e
   where
     not-none : _≡_ {A = ℕ} 1 0 → ⊥
     not-none e = omega arith

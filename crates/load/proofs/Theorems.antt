@@ -17,23 +17,23 @@ use Rattle.ints.specs.Table.{_at_}
 use Rattle.ints.proofs.Bools.{either}
 use Rattle.ints.proofs.Diff.{ind2, ⊖-laws, ⊖-eq}
 use Rattle.ints.proofs.Eachs.{allTo-at}
-use Rattle.ints.proofs.Orders.{then-none}
 use Rattle.ints.proofs.Refusals.{passed}
 use Rattle.ints.proofs.Sums.{sumTo-ext, sumTo-plus, sumTo-swap, sumTo-only}
 use Rattle.ints.proofs.Tables.{getD-tab}
-use Rattle.split.specs.Split.{total, parts}
+use Rattle.ints.proofs.Turns.{then-none}
 use Rattle.split.specs.Fair.{Fair}
+use Rattle.split.specs.Split.{total, parts}
 use Rattle.split.proofs.Demand3.{fair}
+use Rattle.load.specs.Facts.{Ranged, Splits}
 use Rattle.load.specs.Load.{isMetered, meteredLoad, busLoads, supplier, area, kw, count, partsOf, contractParts, contractAt, contractLoad, contracted, auctioned, Given, buses, busLoad, rest, assigned, assignment}
 use Rattle.load.specs.Order.{tests, meters, cover, refusal}
-use Rattle.load.specs.Facts.{Ranged, Splits}
 use Rattle.load.specs.Table.{cell}
-use Rattle.load.proofs.Tables.{row-end, row-of, column-of}
-use Rattle.load.proofs.Splits.{part-ranged}
-use Rattle.load.proofs.Meters.{metered-loads}
-use Rattle.load.proofs.Handed.{stays, is-shared, splits-over, contract-natural, contracted-natural, left-ranged, natural-sum}
 use Rattle.load.proofs.Accepted.{Tested, tested, naturals-of}
 use Rattle.load.proofs.Assigned.{metered-splits, bus-load-ranged}
+use Rattle.load.proofs.Handed.{stays, is-shared, splits-over, contract-natural, contracted-natural, left-ranged, natural-sum}
+use Rattle.load.proofs.Meters.{metered-loads}
+use Rattle.load.proofs.Splits.{part-ranged}
+use Rattle.load.proofs.Tables.{row-end, row-of, column-of}
 
 -- one participant of 64 has it all
 one-has : (q : ℕ) (z : ℤ) → q < 64 → sumTo (λ p. only (eqb q p) z) 64 ≡ z

@@ -1,24 +1,14 @@
--- Document 01's cases of load, computed. Assumes nothing.
-use mathlib.Core.List.{[], _∷_}
+-- Document 01's cases of load that are not marked P, computed. Assumes nothing.
 use mathlib.Core.Path.{_≡_, refl}
+use mathlib.Core.List.{[], _∷_}
 use lib.IntN.{pos, negℤ}
 use lib.ListN.{replicate}
+use Rattle.ints.specs.Each.{allTo}
 use Rattle.ints.specs.Sum.{sumTo, sumN}
 use Rattle.ints.specs.Table.{tab, all}
-use Rattle.ints.specs.Each.{allTo}
 use Rattle.split.specs.Split.{total, cutDown, remainder, unitsLeft, before, place, part, parts}
 use Rattle.load.specs.Load.{busLoads, contractAt, auctioned, Given, given, assigned}
 use Rattle.load.specs.Order.{counts, lengths, ranges, identities, areaTotals, meters, cover, refusal}
-
--- "P11 estimator 100,200,300 and imports 500,-40 with generation 200 give 110,220,330."
-pub P11 : busLoads (pos 1) (pos 100 ∷ pos 200 ∷ pos 300 ∷ []) (pos 500 ∷ negℤ (pos 40) ∷ []) (pos 200 ∷ []) ≡ pos 110 ∷ pos 220 ∷ pos 330 ∷ []
-unfolding sumTo tab sumN total cutDown remainder unitsLeft before place part parts
-P11 = refl
-
--- "P12 601 metered gives 100,200,301."
-pub P12 : busLoads (pos 1) (pos 100 ∷ pos 200 ∷ pos 300 ∷ []) (pos 601 ∷ []) [] ≡ pos 100 ∷ pos 200 ∷ pos 301 ∷ []
-unfolding sumTo tab sumN total cutDown remainder unitsLeft before place part parts
-P12 = refl
 
 -- P11's distributor with "A 10 kW contract over parts 500,000, 333,333, 166,667", of participant 2, and tranches 3 and 1
 abbrev case : Given

@@ -10,9 +10,9 @@ use lib.ListN.{length}
 use lib.Signed.{leZ}
 use Rattle.ints.specs.Each.{allTo}
 use Rattle.ints.specs.Number.{between}
-use Rattle.ints.specs.Order.{_then_}
 use Rattle.ints.specs.Refusal.{unless, lent}
 use Rattle.ints.specs.Table.{all}
+use Rattle.ints.specs.Turn.{_then_}
 use Rattle.split.specs.Split.{total}
 use Rattle.load.specs.Load.{isMetered, meteredLoad, supplier, area, kw, count, partsOf, contracted, Given, buses, busLoad, assignment}
 

@@ -1,25 +1,25 @@
 -- `load::assign` meets its contract. Assumes nothing.
-use Rattle.load.specs.Table.{cell}
-use Rattle.load.proofs.Assigned.{length-bus-loads, bus-load-ranged, cover-ext, assignment-is}
-use Rattle.load.proofs.Accepted.{Tested, tested, naturals-of}
-use Rattle.load.proofs.Tables.{zero-cells, added-zeros}
-use Rattle.load.specs.Facts.{Ranged, Auction, Loads}
-use Rattle.load.specs.Order.{meters, cover, tests, refusal}
-use Rattle.load.specs.Load.{Given, given, buses, contractLoad, contracted, auctioned, busLoads, busLoad, assigned, assignment}
-use Rattle.ints.proofs.Refusals.{lent-result, kept, done}
-use Rattle.ints.proofs.Orders.{then-later, then-first}
-use Rattle.ints.specs.Table.{_at_, tab}
-use Rattle.ints.specs.Order.{_then_}
-use mir.Facts.{toZ-ofZ}
-use mir.Val.{toZ, ofZ}
-use mir.Syntax.{w64}
-use lib.ListN.{length, drop, replicate, length-append, List·getD-append}
-use lib.IntN.{ℤ, pos, natAbs, _+ℤ_, _-ℤ_}
-use native.Mathlib.Omega.{arith}
-use Prim.Native.Nat.{ℕ, _≤_, _<_}
-use mathlib.Core.List.{List, _++_}
 use mathlib.Core.Path.{_≡_, refl, sym, ap, ap₂, _∙_, subst}
+use mathlib.Core.List.{List, _++_}
+use Prim.Native.Nat.{ℕ, _≤_, _<_}
+use native.Mathlib.Omega.{arith}
+use lib.IntN.{ℤ, pos, natAbs, _+ℤ_, _-ℤ_}
+use lib.ListN.{length, drop, replicate, length-append, List·getD-append}
+use mir.Syntax.{w64}
+use mir.Val.{toZ, ofZ}
+use mir.Facts.{toZ-ofZ}
 use borrow.Author.Needs.{needs}
+use Rattle.ints.specs.Table.{_at_, tab}
+use Rattle.ints.specs.Turn.{_then_}
+use Rattle.ints.proofs.Refusals.{lent-result, kept, done}
+use Rattle.ints.proofs.Turns.{then-later, then-earlier}
+use Rattle.load.specs.Facts.{Ranged, Auction, Loads}
+use Rattle.load.specs.Load.{Given, given, buses, contractLoad, contracted, auctioned, busLoads, busLoad, assigned, assignment}
+use Rattle.load.specs.Order.{meters, cover, tests, refusal}
+use Rattle.load.specs.Table.{cell}
+use Rattle.load.proofs.Accepted.{Tested, tested, naturals-of}
+use Rattle.load.proofs.Assigned.{length-bus-loads, bus-load-ranged, cover-ext, assignment-is}
+use Rattle.load.proofs.Tables.{zero-cells, added-zeros}
 use Rattle.load.proofs.assign.Statement.{statement}
 use Rattle.load.proofs.assign.Tie as tie
 
@@ -147,7 +147,7 @@ test-given-requires : tie.Need-test-given-requires
 test-given-requires c κs = search needs
 
 returns : tie.Need-returns
-returns c = let t = c .before in let s = t .before in kept (answer s) (assignment (d s)) (s .args .out .now) (t .test-given .result) (c .if1 .taken) (tests-are t ∙ sym (groups s ∙ then-first _ _ (λ z. c .if1 .taken (tests-are t ∙ z))))
+returns c = let t = c .before in let s = t .before in kept (answer s) (assignment (d s)) (s .args .out .now) (t .test-given .result) (c .if1 .taken) (tests-are t ∙ sym (groups s ∙ then-earlier _ _ (λ z. c .if1 .taken (tests-are t ∙ z))))
 
 slice-aggregate-bus-loads : tie.Need-slice-aggregate-bus-loads
 slice-aggregate-bus-loads c = search needs
@@ -156,7 +156,7 @@ bus-loads-requires : tie.Need-bus-loads-requires
 bus-loads-requires c κs = (facts (c .before) .meters-given, refl)
 
 returns-2 : tie.Need-returns-2
-returns-2 c = let b = c .before .before in let s = start1 (e1 b) in kept (answer s) (assignment (d s)) (s .args .out .now) (b .bus-loads .result) (c .if2 .taken) (meters-are b ∙ sym (after1 (e1 b) ∙ then-first _ _ (λ z. c .if2 .taken (meters-are b ∙ z))))
+returns-2 c = let b = c .before .before in let s = start1 (e1 b) in kept (answer s) (assignment (d s)) (s .args .out .now) (b .bus-loads .result) (c .if2 .taken) (meters-are b ∙ sym (after1 (e1 b) ∙ then-earlier _ _ (λ z. c .if2 .taken (meters-are b ∙ z))))
 
 slice-aggregate-hand-out : tie.Need-slice-aggregate-hand-out
 slice-aggregate-hand-out c = search needs

@@ -1,16 +1,16 @@
 -- `load::test_given` meets its contract. Assumes nothing.
-use Rattle.load.proofs.Accepted.{Counted, counted, measured, in-ranges, areas-of}
+use mathlib.Core.Path.{_≡_, sym, ap, ap₂, _∙_, subst}
+use Prim.Native.Nat.{ℕ}
+use lib.IntN.{ℤ, natAbs}
+use lib.ListN.{length}
+use mir.Facts.{toZ-ofZ}
+use borrow.Author.Needs.{needs}
+use Rattle.ints.specs.Number.{Within}
+use Rattle.ints.specs.Turn.{_then_}
+use Rattle.ints.proofs.Turns.{then-later, then-earlier}
 use Rattle.load.specs.Facts.{Areas}
 use Rattle.load.specs.Order.{counts, lengths, ranges, identities, areaTotals}
-use Rattle.ints.proofs.Orders.{then-later, then-first}
-use Rattle.ints.specs.Order.{_then_}
-use Rattle.ints.specs.Number.{Within}
-use mir.Facts.{toZ-ofZ}
-use lib.ListN.{length}
-use lib.IntN.{ℤ, natAbs}
-use Prim.Native.Nat.{ℕ}
-use mathlib.Core.Path.{_≡_, sym, ap, ap₂, _∙_, subst}
-use borrow.Author.Needs.{needs}
+use Rattle.load.proofs.Accepted.{Counted, counted, measured, in-ranges, areas-of}
 use Rattle.load.proofs.test_given.Statement.{statement}
 use Rattle.load.proofs.test_given.Tie as tie
 
@@ -87,25 +87,25 @@ test-counts-requires : tie.Need-test-counts-requires
 test-counts-requires c κs = search needs
 
 returns : tie.Need-returns
-returns c = let r = counts-is (c .before) in r ∙ sym (then-first _ _ (λ z. c .if1 .taken (r ∙ z)))
+returns c = let r = counts-is (c .before) in r ∙ sym (then-earlier _ _ (λ z. c .if1 .taken (r ∙ z)))
 
 test-lengths-requires : tie.Need-test-lengths-requires
 test-lengths-requires c κs = let s = c .before .before in (counted-is c .few, subst (λ (z : ℤ). Within z 16) (sym (toZ-ofZ (s .fits .areas))) (areas-within c))
 
 returns-2 : tie.Need-returns-2
-returns-2 c = let r = lengths-is (c .before) in r ∙ sym (after1 (c .before .before) ∙ then-first _ _ (λ z. c .if2 .taken (r ∙ z)))
+returns-2 c = let r = lengths-is (c .before) in r ∙ sym (after1 (c .before .before) ∙ then-earlier _ _ (λ z. c .if2 .taken (r ∙ z)))
 
 test-ranges-requires : tie.Need-test-ranges-requires
 test-ranges-requires c κs = search needs
 
 returns-3 : tie.Need-returns-3
-returns-3 c = let r = ranges-is (c .before) in r ∙ sym (after2 (c .before .before) ∙ then-first _ _ (λ z. c .if3 .taken (r ∙ z)))
+returns-3 c = let r = ranges-is (c .before) in r ∙ sym (after2 (c .before .before) ∙ then-earlier _ _ (λ z. c .if3 .taken (r ∙ z)))
 
 test-identities-requires : tie.Need-test-identities-requires
 test-identities-requires c κs = let e = c .before .before .before .before in let s = e .before .before in subst (λ (z : ℤ). Within z 16) (sym (toZ-ofZ (s .fits .areas))) (areas-within e)
 
 returns-4 : tie.Need-returns-4
-returns-4 c = let r = identities-is (c .before) in r ∙ sym (after3 (c .before .before) ∙ then-first _ _ (λ z. c .if4 .taken (r ∙ z)))
+returns-4 c = let r = identities-is (c .before) in r ∙ sym (after3 (c .before .before) ∙ then-earlier _ _ (λ z. c .if4 .taken (r ∙ z)))
 
 test-areas-requires : tie.Need-test-areas-requires
 test-areas-requires c κs = let s = start c in subst (λ (z : ℤ). Areas (natAbs z) (length (s .args .loads .now)) (s .args .millionths .now)) (sym (toZ-ofZ (s .fits .areas))) (whole-areas c)
