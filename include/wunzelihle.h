@@ -160,6 +160,8 @@ uint32_t wz_split(int64_t amount,
  *   WZ_NO_SHARES     a metered distributor's imports and generation don't add
  *                    up to 0 and its loads do
  *   WZ_CONTRACTS     contracts have more kW at a bus than the distributor
+ *
+ * Stack: 85 KB.
  */
 uint32_t wz_assign_load(int64_t metered, int64_t distributor,
                         const uint8_t *loads, size_t loads_len,
