@@ -144,7 +144,7 @@ fn assign_listed(
     let c = contracts.len() / 8;
     let t = tranches.len() / 8;
     let m = out.len() / 8;
-    let refused = load::assign(
+    let refusal = load::assign(
         metered,
         distributor,
         &at_buses[..b],
@@ -156,8 +156,8 @@ fn assign_listed(
         &won[..t],
         &mut made[..m],
     );
-    if refused != 0 {
-        return refused;
+    if refusal != 0 {
+        return refusal;
     }
     numbers::write_all(&made[..m], out);
     0
