@@ -11,3 +11,6 @@ pub mod Unique
 pub mod Turns
 pub mod Members
 pub mod Eachs
+pub mod Gather
+pub mod Adding
+pub mod Ranges

@@ -5,3 +5,5 @@ pub mod Refusal
 pub mod Twos
 pub mod Turn
 pub mod Each
+pub mod Every
+pub mod Range

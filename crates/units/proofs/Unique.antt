@@ -7,6 +7,8 @@ use Rattle.units.specs.declared.Kw.{Kw}
 use Rattle.units.specs.declared.Mills.{Mills}
 use Rattle.units.specs.declared.Twelfths.{Twelfths}
 use Rattle.units.proofs.charge.Reads as charge
+use Rattle.units.proofs.reimbursed.Reads as reimbursed
+use Rattle.units.proofs.rise.Reads as rise
 use Rattle.units.proofs.to_cents.Reads as to-cents
 use Rattle.units.proofs.whole_hour.Reads as whole-hour
 
@@ -18,6 +20,12 @@ Charge kw price r = charge.Post tt (kw, (price, tt)) r (kw, (price, tt))
 abbrev WholeHour : Mills → Mills → Type 0
 WholeHour price r = whole-hour.Post tt (price, tt) r (price, tt)
 
+abbrev Rise : Mills → Mills → Mills → Type 0
+Rise sink source r = rise.Post tt (sink, (source, tt)) r (sink, (source, tt))
+
+abbrev Reimbursed : Twelfths → Twelfths → Type 0
+Reimbursed amount r = reimbursed.Post tt (amount, tt) r (amount, tt)
+
 abbrev ToCents : Twelfths → Cents → Type 0
 ToCents amount r = to-cents.Post tt (amount, tt) r (amount, tt)
 
@@ -28,6 +36,12 @@ charge-unique kw price r s p q = ap (λ (n : ℤ). record { 0 = n }) (unique p q
 
 pub whole-hour-unique : (price r s : Mills) → WholeHour price r → WholeHour price s → r ≡ s
 whole-hour-unique price r s p q = ap (λ (n : ℤ). record { 0 = n }) (unique p q)
+
+pub rise-unique : (sink source r s : Mills) → Rise sink source r → Rise sink source s → r ≡ s
+rise-unique sink source r s p q = ap (λ (n : ℤ). record { 0 = n }) (unique p q)
+
+pub reimbursed-unique : (amount r s : Twelfths) → Reimbursed amount r → Reimbursed amount s → r ≡ s
+reimbursed-unique amount r s p q = ap (λ (n : ℤ). record { 0 = n }) (unique p q)
 
 pub to-cents-unique : (amount : Twelfths) (r s : Cents) → ToCents amount r → ToCents amount s → r ≡ s
 to-cents-unique amount r s p q = ap (λ (n : ℤ). record { 0 = n }) (unique p q)

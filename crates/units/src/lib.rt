@@ -2,7 +2,9 @@
 // functions in which one becomes another.
 ghost use mathlib.Core.Path.{_≡_};
 ghost use Prim.Native.Nat.{_≤_};
-ghost use lib.IntN.{pos};
+ghost use lib.IntN.{pos, negℤ, _-ℤ_};
+ghost use mir.Syntax.{w64};
+ghost use mir.Val.{SFits};
 ghost use Rattle.ints.specs.Number.{Within};
 ghost use Rattle.units.specs.Units.{chargeOf, wholeHour, centsOf};
 
@@ -32,6 +34,22 @@ pub fn whole_hour(price: Mills) -> Mills
     ensures { λ r. ⌜ r .0 ≡ wholeHour (price .0) ⌝ }
 {
     Mills(12 * price.0)
+}
+
+// The weight at a path's sink less that at its source.
+pub fn rise(sink: Mills, source: Mills) -> Mills
+    requires { ⌜ SFits w64 (sink .0 -ℤ source .0) ⌝ }
+    ensures { λ r. ⌜ r .0 ≡ sink .0 -ℤ source .0 ⌝ }
+{
+    Mills(sink.0 - source.0)
+}
+
+// A charge that is reimbursed.
+pub fn reimbursed(amount: Twelfths) -> Twelfths
+    requires { ⌜ Within (amount .0) 4800000000000000 ⌝ }
+    ensures { λ r. ⌜ r .0 ≡ negℤ (amount .0) ⌝ }
+{
+    Twelfths(-amount.0)
 }
 
 // The nearest cent, halves away from zero.

@@ -1,0 +1,4 @@
+pub mod Terms
+pub mod Theorem
+pub mod Own
+pub mod Sign

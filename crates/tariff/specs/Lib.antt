@@ -1,0 +1,3 @@
+pub mod Tariff
+pub mod Parts
+pub mod Cases
