@@ -15,7 +15,7 @@ use Rattle.ints.proofs.Sums.{Σ-ext, sumTo-ext}
 use Rattle.ints.proofs.Gather.{every-map, Σ-minus, Σ-only-mul, Σ-only-scale, sumTo-minus, gather, gather-pairs}
 use Rattle.rows.specs.declared.Row.{Row}
 use Rattle.rows.specs.declared.Transaction.{Transaction}
-use Rattle.tariff.specs.Tariff.{Prices, P, C, A, B, D, E, withdraws, injects, rowOf, transactionOf, withdrawn, injected, carried, aheadAt, realAt, aheadPath, realPath, excess, shortfall, positions, paths, charge}
+use Rattle.tariff.specs.Tariff.{Prices, P, C, A, B, D, E, withdraws, injects, ownRow, ownTransaction, withdrawn, injected, carried, aheadAt, realAt, aheadPath, realPath, excess, shortfall, positions, paths, charge}
 use Rattle.tariff.specs.Parts.{sign, aheadWeight, weight, rowPart, transactionPart, rowParts, transactionParts, RowPlaced, TransactionPlaced}
 use Rattle.tariff.proofs.Terms.{factor, by-market, apart, above-less, hours, real}
 
@@ -38,7 +38,7 @@ signed r = sign (r .kind) *ℤ pos (r .kw .0)
 module _ (rows : List Row) (p : ℕ) where
   -- which rows stand at a location
   abbrev at : ℕ → ℕ → ℕ → Row → Bool
-  at m k l r = rowOf m k p r && eqb (r .location) l
+  at m k l r = ownRow m k p r && eqb (r .location) l
 
   -- their signed kW
   abbrev net : ℕ → ℕ → ℕ → ℤ
@@ -74,18 +74,18 @@ module _ (prices : Prices) (rows : List Row) (p : ℕ) where
 
   -- over all locations: each row at its own
   module _ (within : Every (λ r. r .location < prices .locations) rows) where
-    ahead-rows : sumTo (λ l. pos 12 *ℤ aheadAt prices rows p l) (prices .locations) ≡ Σℤ (λ r. only (rowOf 0 0 p r) (pos 12 *ℤ (signed r *ℤ P prices (r .location)))) rows
+    ahead-rows : sumTo (λ l. pos 12 *ℤ aheadAt prices rows p l) (prices .locations) ≡ Σℤ (λ r. only (ownRow 0 0 p r) (pos 12 *ℤ (signed r *ℤ P prices (r .location)))) rows
     ahead-rows =
         sumTo-ext _ _ (prices .locations) (λ l _. ahead-at l)
-        ∙ gather (rowOf 0 0 p) (λ r. r .location) (prices .locations) (λ r l. pos 12 *ℤ (signed r *ℤ P prices l)) rows within
+        ∙ gather (ownRow 0 0 p) (λ r. r .location) (prices .locations) (λ r l. pos 12 *ℤ (signed r *ℤ P prices l)) rows within
 
     real-rows : (k : ℕ) → sumTo (λ l. realAt prices rows p k l) (prices .locations)
-        ≡ Σℤ (λ r. only (rowOf 1 k p r) (signed r *ℤ C prices k (r .location))) rows -ℤ Σℤ (λ r. only (rowOf 0 0 p r) (signed r *ℤ C prices k (r .location))) rows
+        ≡ Σℤ (λ r. only (ownRow 1 k p r) (signed r *ℤ C prices k (r .location))) rows -ℤ Σℤ (λ r. only (ownRow 0 0 p r) (signed r *ℤ C prices k (r .location))) rows
     real-rows k =
         sumTo-ext _ _ (prices .locations) (λ l _. real-at k l) ∙ sumTo-minus _ _ (prices .locations)
         ∙ ap₂ _-ℤ_
-        (gather (rowOf 1 k p) (λ r. r .location) (prices .locations) (λ r l. signed r *ℤ C prices k l) rows within)
-        (gather (rowOf 0 0 p) (λ r. r .location) (prices .locations) (λ r l. signed r *ℤ C prices k l) rows within)
+        (gather (ownRow 1 k p) (λ r. r .location) (prices .locations) (λ r l. signed r *ℤ C prices k l) rows within)
+        (gather (ownRow 0 0 p) (λ r. r .location) (prices .locations) (λ r l. signed r *ℤ C prices k l) rows within)
 
   -- over the hour: each row in its own market and interval
   pub positions-are : Every (RowPlaced (prices .locations)) rows → rowParts prices rows p ≡ positions prices rows p
@@ -98,10 +98,10 @@ module _ (prices : Prices) (rows : List Row) (p : ℕ) where
 
 -- ---- transactions
 
-module _ (prices : Prices) (txs : List Transaction) (p : ℕ) where
+module _ (prices : Prices) (transactions : List Transaction) (p : ℕ) where
   -- which transactions are of a path, and their kW
   abbrev on : ℕ → ℕ → ℕ → ℕ → Transaction → Bool
-  on m k i j t = transactionOf m k p t && eqb (t .source) i && eqb (t .sink) j
+  on m k i j t = ownTransaction m k p t && eqb (t .source) i && eqb (t .sink) j
 
   abbrev kw : Transaction → ℤ
   kw t = pos (t .kw .0)
@@ -113,21 +113,21 @@ module _ (prices : Prices) (txs : List Transaction) (p : ℕ) where
   abbrev rise : ℕ → ℕ → ℕ → ℤ
   rise k i j = C prices k j -ℤ C prices k i
 
-  ahead-on : (i j : ℕ) → pos 12 *ℤ aheadPath prices txs p i j ≡ Σℤ (λ t. only (on 0 0 i j t) (pos 12 *ℤ (kw t *ℤ aheadRise i j))) txs
+  ahead-on : (i j : ℕ) → pos 12 *ℤ aheadPath prices transactions p i j ≡ Σℤ (λ t. only (on 0 0 i j t) (pos 12 *ℤ (kw t *ℤ aheadRise i j))) transactions
   unfolding aheadPath
   ahead-on i j =
-      ap (λ (z : ℤ). pos 12 *ℤ z) (Σ-only-mul (on 0 0 i j) kw (aheadRise i j) txs)
-      ∙ Σ-only-scale (pos 12) (on 0 0 i j) (λ t. kw t *ℤ aheadRise i j) txs
+      ap (λ (z : ℤ). pos 12 *ℤ z) (Σ-only-mul (on 0 0 i j) kw (aheadRise i j) transactions)
+      ∙ Σ-only-scale (pos 12) (on 0 0 i j) (λ t. kw t *ℤ aheadRise i j) transactions
 
   -- the excess less the shortfall is real time less day-ahead
-  real-on : (k i j : ℕ) → realPath prices txs p k i j
-      ≡ Σℤ (λ t. only (on 1 k i j t) (kw t *ℤ rise k i j)) txs -ℤ Σℤ (λ t. only (on 0 0 i j t) (kw t *ℤ rise k i j)) txs
+  real-on : (k i j : ℕ) → realPath prices transactions p k i j
+      ≡ Σℤ (λ t. only (on 1 k i j t) (kw t *ℤ rise k i j)) transactions -ℤ Σℤ (λ t. only (on 0 0 i j t) (kw t *ℤ rise k i j)) transactions
   unfolding realPath
   real-on k i j =
-      factor (excess txs p k i j) (shortfall txs p k i j) (rise k i j)
-      ∙ ap (λ (z : ℤ). z *ℤ rise k i j) (above-less (carried txs 1 k p i j) (carried txs 0 0 p i j))
-      ∙ sym (factor (carried txs 1 k p i j) (carried txs 0 0 p i j) (rise k i j))
-      ∙ ap₂ _-ℤ_ (Σ-only-mul (on 1 k i j) kw (rise k i j) txs) (Σ-only-mul (on 0 0 i j) kw (rise k i j) txs)
+      factor (excess transactions p k i j) (shortfall transactions p k i j) (rise k i j)
+      ∙ ap (λ (z : ℤ). z *ℤ rise k i j) (above-less (carried transactions 1 k p i j) (carried transactions 0 0 p i j))
+      ∙ sym (factor (carried transactions 1 k p i j) (carried transactions 0 0 p i j) (rise k i j))
+      ∙ ap₂ _-ℤ_ (Σ-only-mul (on 1 k i j) kw (rise k i j) transactions) (Σ-only-mul (on 0 0 i j) kw (rise k i j) transactions)
 
   -- the weight of a difference of prices is the difference of the weights
   weight-rise : (ahead : Bool) (k i j : ℕ)
@@ -140,38 +140,38 @@ module _ (prices : Prices) (txs : List Transaction) (p : ℕ) where
   weight-rise false k i j = refl
 
   -- over all paths: each transaction on its own
-  module _ (from : Every (λ t. t .source < prices .locations) txs) (to : Every (λ t. t .sink < prices .locations) txs) where
-    ahead-paths : sumTo (λ i. sumTo (λ j. pos 12 *ℤ aheadPath prices txs p i j) (prices .locations)) (prices .locations)
-        ≡ Σℤ (λ t. only (transactionOf 0 0 p t) (pos 12 *ℤ (kw t *ℤ aheadRise (t .source) (t .sink)))) txs
+  module _ (from : Every (λ t. t .source < prices .locations) transactions) (to : Every (λ t. t .sink < prices .locations) transactions) where
+    ahead-paths : sumTo (λ i. sumTo (λ j. pos 12 *ℤ aheadPath prices transactions p i j) (prices .locations)) (prices .locations)
+        ≡ Σℤ (λ t. only (ownTransaction 0 0 p t) (pos 12 *ℤ (kw t *ℤ aheadRise (t .source) (t .sink)))) transactions
     ahead-paths =
         sumTo-ext _ _ (prices .locations) (λ i _. sumTo-ext _ _ (prices .locations) (λ j _. ahead-on i j))
-        ∙ gather-pairs (transactionOf 0 0 p) (λ t. t .source) (λ t. t .sink) (prices .locations) (λ t i j. pos 12 *ℤ (kw t *ℤ aheadRise i j)) txs from to
+        ∙ gather-pairs (ownTransaction 0 0 p) (λ t. t .source) (λ t. t .sink) (prices .locations) (λ t i j. pos 12 *ℤ (kw t *ℤ aheadRise i j)) transactions from to
 
-    real-paths : (k : ℕ) → sumTo (λ i. sumTo (λ j. realPath prices txs p k i j) (prices .locations)) (prices .locations)
-        ≡ Σℤ (λ t. only (transactionOf 1 k p t) (kw t *ℤ rise k (t .source) (t .sink))) txs -ℤ Σℤ (λ t. only (transactionOf 0 0 p t) (kw t *ℤ rise k (t .source) (t .sink))) txs
+    real-paths : (k : ℕ) → sumTo (λ i. sumTo (λ j. realPath prices transactions p k i j) (prices .locations)) (prices .locations)
+        ≡ Σℤ (λ t. only (ownTransaction 1 k p t) (kw t *ℤ rise k (t .source) (t .sink))) transactions -ℤ Σℤ (λ t. only (ownTransaction 0 0 p t) (kw t *ℤ rise k (t .source) (t .sink))) transactions
     real-paths k =
         sumTo-ext _ _ (prices .locations) (λ i _. sumTo-ext _ _ (prices .locations) (λ j _. real-on k i j) ∙ sumTo-minus _ _ (prices .locations))
         ∙ sumTo-minus _ _ (prices .locations)
         ∙ ap₂ _-ℤ_
-        (gather-pairs (transactionOf 1 k p) (λ t. t .source) (λ t. t .sink) (prices .locations) (λ t i j. kw t *ℤ rise k i j) txs from to)
-        (gather-pairs (transactionOf 0 0 p) (λ t. t .source) (λ t. t .sink) (prices .locations) (λ t i j. kw t *ℤ rise k i j) txs from to)
+        (gather-pairs (ownTransaction 1 k p) (λ t. t .source) (λ t. t .sink) (prices .locations) (λ t i j. kw t *ℤ rise k i j) transactions from to)
+        (gather-pairs (ownTransaction 0 0 p) (λ t. t .source) (λ t. t .sink) (prices .locations) (λ t i j. kw t *ℤ rise k i j) transactions from to)
 
   -- over the hour: each transaction in its own market and interval
-  pub paths-are : Every (TransactionPlaced (prices .locations)) txs → transactionParts prices txs p ≡ paths prices txs p
+  pub paths-are : Every (TransactionPlaced (prices .locations)) transactions → transactionParts prices transactions p ≡ paths prices transactions p
   unfolding paths owed transactionPart
   paths-are e =
       sym
       (ap₂ _+ℤ_
-      (ahead-paths (every-map (λ t h. h .source) txs e) (every-map (λ t h. h .sink) txs e))
-      (sumTo-ext _ _ 12 (λ k _. real-paths (every-map (λ t h. h .source) txs e) (every-map (λ t h. h .sink) txs e) k))
+      (ahead-paths (every-map (λ t h. h .source) transactions e) (every-map (λ t h. h .sink) transactions e))
+      (sumTo-ext _ _ 12 (λ k _. real-paths (every-map (λ t h. h .source) transactions e) (every-map (λ t h. h .sink) transactions e) k))
       ∙ hours (λ t. eqb (t .participant) p) (λ t. t .market) (λ t. t .interval) kw
-      (λ t. aheadRise (t .source) (t .sink)) (λ k t. rise k (t .source) (t .sink)) (λ t h. h .timed) txs e
-      ∙ Σ-ext _ _ txs (λ t. ap (λ (z : ℤ). only (eqb (t .participant) p) (kw t *ℤ z)) (weight-rise (eqb (t .market) 0) (t .interval) (t .source) (t .sink))))
+      (λ t. aheadRise (t .source) (t .sink)) (λ k t. rise k (t .source) (t .sink)) (λ t h. h .timed) transactions e
+      ∙ Σ-ext _ _ transactions (λ t. ap (λ (z : ℤ). only (eqb (t .participant) p) (kw t *ℤ z)) (weight-rise (eqb (t .market) 0) (t .interval) (t .source) (t .sink))))
 
 -- ---- THE THEOREM
 
-pub same : (prices : Prices) (rows : List Row) (txs : List Transaction) (p : ℕ)
-    → Every (RowPlaced (prices .locations)) rows → Every (TransactionPlaced (prices .locations)) txs
-    → rowParts prices rows p +ℤ transactionParts prices txs p ≡ charge prices rows txs p
+pub same : (prices : Prices) (rows : List Row) (transactions : List Transaction) (p : ℕ)
+    → Every (RowPlaced (prices .locations)) rows → Every (TransactionPlaced (prices .locations)) transactions
+    → rowParts prices rows p +ℤ transactionParts prices transactions p ≡ charge prices rows transactions p
 unfolding charge
-same prices rows txs p d e = ap₂ _+ℤ_ (positions-are prices rows p d) (paths-are prices txs p e)
+same prices rows transactions p d e = ap₂ _+ℤ_ (positions-are prices rows p d) (paths-are prices transactions p e)

@@ -1,13 +1,13 @@
--- What one row, and one transaction, contributes to its participant's charge. Assumes nothing.
+-- What one row, and one transaction, adds to its participant's charge: kW times a weight that is computed once a location. Assumes nothing.
 use mathlib.Core.List.{List}
 use Prim.Native.Nat.{ℕ, _*_, _<_}
 use lib.Dec.{eqb}
-use lib.ListN.{getD, drop}
 use lib.IntN.{ℤ, pos, _-ℤ_, _*ℤ_}
-use Rattle.ints.specs.Sum.{sumTo, only}
+use lib.ListN.{drop}
+use Rattle.ints.specs.Every.{keep, owed}
 use Rattle.ints.specs.Refusal.{pick}
-use Rattle.ints.specs.Every.{keep}
-use Rattle.ints.specs.Every.{owed}
+use Rattle.ints.specs.Sum.{sumTo, only}
+use Rattle.ints.specs.Table.{_at_}
 use Rattle.rows.specs.Tested.{Timed}
 use Rattle.rows.specs.declared.Row.{Row}
 use Rattle.rows.specs.declared.Transaction.{Transaction}
@@ -17,7 +17,7 @@ use Rattle.tariff.specs.Tariff.{Prices, P, C, dayAhead, withdraws, injec
 abbrev pub sign : ℕ → ℤ
 sign kind = only (withdraws kind) (pos 1) -ℤ only (injects kind) (pos 1)
 
--- a day-ahead kW at l is priced once for the hour and taken back in each of the 12 intervals
+-- a day-ahead kW at l is priced for the whole hour and taken back in each of the 12 intervals
 unfoldable pub aheadWeight : Prices → ℕ → ℤ
 aheadWeight prices l = pos 12 *ℤ P prices l -ℤ sumTo (λ k. C prices k l) 12
 
@@ -25,10 +25,9 @@ aheadWeight prices l = pos 12 *ℤ P prices l -ℤ sumTo (λ k. C prices k l) 12
 abbrev pub weight : Prices → ℕ → ℕ → ℕ → ℤ
 weight prices market interval l = pick (eqb market dayAhead) (aheadWeight prices l) (C prices interval l)
 
--- the same from a table of day-ahead weights and the real-time prices, as code has it
+-- the same from a table of day-ahead weights and the real-time prices
 abbrev pub weightIn : List ℤ → List ℤ → ℕ → ℕ → ℕ → ℕ → ℤ
-weightIn weights real locations market interval l =
-    pick (eqb market dayAhead) (getD weights l (pos 0)) (getD (drop (interval * locations) real) l (pos 0))
+weightIn weights real locations market interval l = pick (eqb market dayAhead) (weights at l) (drop (interval * locations) real at l)
 
 unfoldable pub rowPart : Prices → Row → ℤ
 rowPart prices r = sign (r .kind) *ℤ pos (r .kw .0) *ℤ weight prices (r .market) (r .interval) (r .location)
@@ -42,7 +41,7 @@ abbrev pub rowParts : Prices → List Row → ℕ → ℤ
 rowParts prices rows p = owed (λ r. r .participant) (rowPart prices) rows p
 
 abbrev pub transactionParts : Prices → List Transaction → ℕ → ℤ
-transactionParts prices txs p = owed (λ t. t .participant) (transactionPart prices) txs p
+transactionParts prices transactions p = owed (λ t. t .participant) (transactionPart prices) transactions p
 
 -- what the theorem asks of a row, and of a transaction; decoding has tested it
 pub record RowPlaced (locations : ℕ) (r : Row) : Type 0 where
@@ -59,4 +58,4 @@ abbrev pub ownRows : ℕ → List Row → List Row
 ownRows p rows = keep (λ r. eqb (r .participant) p) rows
 
 abbrev pub ownTransactions : ℕ → List Transaction → List Transaction
-ownTransactions p txs = keep (λ t. eqb (t .participant) p) txs
+ownTransactions p transactions = keep (λ t. eqb (t .participant) p) transactions

@@ -1,18 +1,20 @@
--- Sections 5.1.3(b)-(d), (f) and 5.1.4A, and with loss prices 5.4.3(b)-(d), (f) and 5.4.4A, over the rows and transactions of one hour. Amounts are in twelfths of a
--- millionth of a dollar: a day-ahead amount counts 12 times, a real-time one (whose price 5.1.1 and 5.4.2(c) divide by 12) once. Assumes nothing.
+-- The charges of one hour as sections 5.1.3(b)-(d), (f) and 5.1.4A define them for congestion, and 5.4.3(b)-(d), (f) and 5.4.4A for losses: "Congestion and loss use
+-- the same rule with different price lists" (document 01, "Charges"). Amounts are in twelfths of a millionth of a dollar: an amount at a day-ahead price counts
+-- twelve times, and one at a real-time price, which 5.1.1 and 5.4.2(c) divide by 12, once. Assumes nothing.
+use mathlib.Core.Bool.{Bool, _||_, _&&_}
 use mathlib.Core.List.{List}
-use mathlib.Core.Bool.{Bool, _&&_, _||_}
 use Prim.Native.Nat.{ℕ, _*_}
 use lib.Dec.{eqb}
-use lib.ListN.{getD, drop}
 use lib.IntN.{ℤ, pos, negsuc, _+ℤ_, _-ℤ_, _*ℤ_}
+use lib.ListN.{drop}
 use Rattle.ints.specs.Sum.{Σℤ, sumTo, only}
+use Rattle.ints.specs.Table.{_at_}
 use Rattle.rows.specs.declared.Row.{Row}
 use Rattle.rows.specs.declared.Transaction.{Transaction}
 
 -- ---- prices
 
--- A price list, of congestion or of loss, in mills per MWh: a day-ahead price for each location; the real-time prices interval by interval.
+-- A price list, of congestion or of losses, in mills per MWh: a day-ahead price for each location, and the real-time prices interval by interval
 pub record Prices : Type 0 where
   pub locations : ℕ
   pub ahead : List ℤ
@@ -21,79 +23,87 @@ pub record Prices : Type 0 where
 abbrev pub priceList : ℕ → List ℤ → List ℤ → Prices
 priceList locations ahead real = record { locations = locations; ahead = ahead; real = real }
 
--- the day-ahead price at l
+-- the day-ahead price at location l
 abbrev pub P : Prices → ℕ → ℤ
-P prices l = getD (prices .ahead) l (pos 0)
+P prices l = prices .ahead at l
 
--- C: the real-time price at l, in interval k's own stretch of the list, which starts at k times locations
+-- "C = Real-time Congestion Price": interval k's at location l. "Each interval's prices are read from their own stretch of the list"
 abbrev pub C : Prices → ℕ → ℕ → ℤ
-C prices k l = getD (drop (k * prices .locations) (prices .real)) l (pos 0)
+C prices k l = drop (k * prices .locations) (prices .real) at l
 
--- ---- megawatts withdrawn and injected
+-- ---- energy withdrawn, injected and carried. "Rows alike add up"
 
+-- "a market (day-ahead 0, real time 1)"
 abbrev pub dayAhead : ℕ
 dayAhead = 0
 
 abbrev pub realTime : ℕ
 realTime = 1
 
--- load, export, decrement bid
+-- "0, 2, 4 withdraw": load, export, decrement bid
 abbrev pub withdraws : ℕ → Bool
 withdraws kind = eqb kind 0 || eqb kind 2 || eqb kind 4
 
--- generation, import, increment offer
+-- "1, 3, 5 inject": generation, import, increment offer
 abbrev pub injects : ℕ → Bool
 injects kind = eqb kind 1 || eqb kind 3 || eqb kind 5
 
--- of participant p, in market m and interval k (0 in day-ahead)
-abbrev pub rowOf : ℕ → ℕ → ℕ → Row → Bool
-rowOf m k p r = eqb (r .participant) p && eqb (r .market) m && eqb (r .interval) k
+-- a row, and a transaction, of participant p in market m and interval k; "Day-ahead rows and transactions carry interval 0"
+abbrev pub ownRow : ℕ → ℕ → ℕ → Row → Bool
+ownRow m k p r = eqb (r .participant) p && eqb (r .market) m && eqb (r .interval) k
 
-abbrev pub transactionOf : ℕ → ℕ → ℕ → Transaction → Bool
-transactionOf m k p t = eqb (t .participant) p && eqb (t .market) m && eqb (t .interval) k
+abbrev pub ownTransaction : ℕ → ℕ → ℕ → Transaction → Bool
+ownTransaction m k p t = eqb (t .participant) p && eqb (t .market) m && eqb (t .interval) k
 
--- what p withdraws, and injects, at l: the kW of such rows, added up
+-- the kW that p withdraws, and injects, at location l
 abbrev pub withdrawn : List Row → ℕ → ℕ → ℕ → ℕ → ℤ
-withdrawn rows m k p l = Σℤ (λ r. only (withdraws (r .kind) && (rowOf m k p r && eqb (r .location) l)) (pos (r .kw .0))) rows
+withdrawn rows m k p l = Σℤ (λ r. only (withdraws (r .kind) && (ownRow m k p r && eqb (r .location) l)) (pos (r .kw .0))) rows
 
 abbrev pub injected : List Row → ℕ → ℕ → ℕ → ℕ → ℤ
-injected rows m k p l = Σℤ (λ r. only (injects (r .kind) && (rowOf m k p r && eqb (r .location) l)) (pos (r .kw .0))) rows
+injected rows m k p l = Σℤ (λ r. only (injects (r .kind) && (ownRow m k p r && eqb (r .location) l)) (pos (r .kw .0))) rows
 
--- what p's transactions carry from source to sink
+-- the kW that p's transactions carry from source to sink
 abbrev pub carried : List Transaction → ℕ → ℕ → ℕ → ℕ → ℕ → ℤ
-carried txs m k p source sink =
-    Σℤ (λ t. only (transactionOf m k p t && eqb (t .source) source && eqb (t .sink) sink) (pos (t .kw .0))) txs
+carried transactions m k p source sink =
+    Σℤ (λ t. only (ownTransaction m k p t && eqb (t .source) source && eqb (t .sink) sink) (pos (t .kw .0))) transactions
 
--- ---- 5.1.3(b), (c), (d): withdrawals are charged and injections reimbursed at the day-ahead price of the location
+-- ---- 5.1.3(b), (c), (d), and 5.4.3(b), (c), (d)
 
+-- (b) "charged for transmission congestion resulting from all Market Participant Energy Withdrawals scheduled in the Day-ahead Energy Market at the Day-ahead
+-- Congestion Prices applicable to each relevant location", (c) "reimbursed" for all injections, (d) "the difference between" the two
 unfoldable pub aheadAt : Prices → List Row → ℕ → ℕ → ℤ
 aheadAt prices rows p l = withdrawn rows dayAhead 0 p l *ℤ P prices l -ℤ injected rows dayAhead 0 p l *ℤ P prices l
 
--- ---- 5.1.3(f): [(A - B) * C] - [(D - E) * C]
+-- ---- 5.1.3(f), and 5.4.3(f): "For each Real-time Settlement Interval"
 
--- A, D: withdrawal and injection in real time, in interval k at location l. B, E: in day-ahead, at that location
+-- "A = The Market Participant Energy Withdrawal megawatts in real-time at the location"
 abbrev pub A : List Row → ℕ → ℕ → ℕ → ℤ
 A rows p k l = withdrawn rows realTime k p l
 
+-- "B = The Market Participant Energy Withdrawal megawatts in day-ahead at the location"
 abbrev pub B : List Row → ℕ → ℕ → ℤ
 B rows p l = withdrawn rows dayAhead 0 p l
 
+-- "D = The Market Participant Energy Injection megawatts in real-time at the location"
 abbrev pub D : List Row → ℕ → ℕ → ℕ → ℤ
 D rows p k l = injected rows realTime k p l
 
+-- "E = The Market Participant Energy Injection megawatts in day-ahead at the location"
 abbrev pub E : List Row → ℕ → ℕ → ℤ
 E rows p l = injected rows dayAhead 0 p l
 
+-- "[(A - B) * C] - [(D - E) * C]"
 unfoldable pub realAt : Prices → List Row → ℕ → ℕ → ℕ → ℤ
 realAt prices rows p k l =
     (A rows p k l -ℤ B rows p l) *ℤ C prices k l -ℤ (D rows p k l -ℤ E rows p l) *ℤ C prices k l
 
--- ---- 5.1.4A: a path, from a source to a sink
+-- ---- 5.1.4A, and 5.4.4A: a path, from a source to a sink
 
--- (a) the scheduled amount multiplied by the difference between the day-ahead price at the sink and at the source
+-- (a) "the scheduled amount to be delivered multiplied by the difference between the Day-ahead Congestion Price at the sink point and the Day-ahead Congestion Price
+-- at the source point"
 unfoldable pub aheadPath : Prices → List Transaction → ℕ → ℕ → ℕ → ℤ
-aheadPath prices txs p source sink =
-    carried txs dayAhead 0 p source sink *ℤ (P prices sink -ℤ P prices source)
+aheadPath prices transactions p source sink =
+    carried transactions dayAhead 0 p source sink *ℤ (P prices sink -ℤ P prices source)
 
 -- by how much x is above y, else 0
 abbrev pub positive : ℤ → ℤ
@@ -103,19 +113,22 @@ positive (negsuc n) = pos 0
 abbrev pub above : ℤ → ℤ → ℤ
 above x y = positive (x -ℤ y)
 
--- (b) the excess of the real-time amount over the day-ahead amount of the path is charged, and the shortfall paid
+-- (b) "real-time MWh in excess of the amounts scheduled for the applicable interval in the Day-ahead Energy Market"
 abbrev pub excess : List Transaction → ℕ → ℕ → ℕ → ℕ → ℤ
-excess txs p k source sink = above (carried txs realTime k p source sink) (carried txs dayAhead 0 p source sink)
+excess transactions p k source sink = above (carried transactions realTime k p source sink) (carried transactions dayAhead 0 p source sink)
 
+-- "real-time MWh falling below the amounts scheduled"
 abbrev pub shortfall : List Transaction → ℕ → ℕ → ℕ → ℕ → ℤ
-shortfall txs p k source sink = above (carried txs dayAhead 0 p source sink) (carried txs realTime k p source sink)
+shortfall transactions p k source sink = above (carried transactions dayAhead 0 p source sink) (carried transactions realTime k p source sink)
 
+-- the excess is charged and the shortfall paid, each "multiplied by the difference between the Real-time Congestion Price at the sink point and the Real-time
+-- Congestion Price at the source point"
 unfoldable pub realPath : Prices → List Transaction → ℕ → ℕ → ℕ → ℕ → ℤ
-realPath prices txs p k source sink =
-    excess txs p k source sink *ℤ (C prices k sink -ℤ C prices k source)
-    -ℤ shortfall txs p k source sink *ℤ (C prices k sink -ℤ C prices k source)
+realPath prices transactions p k source sink =
+    excess transactions p k source sink *ℤ (C prices k sink -ℤ C prices k source)
+    -ℤ shortfall transactions p k source sink *ℤ (C prices k sink -ℤ C prices k source)
 
--- ---- the hour's charge of participant p, over all locations, intervals and paths
+-- ---- the hour's charge of participant p: over all locations and paths, day-ahead and in each of the 12 intervals
 
 unfoldable pub positions : Prices → List Row → ℕ → ℤ
 positions prices rows p =
@@ -123,9 +136,9 @@ positions prices rows p =
     +ℤ sumTo (λ k. sumTo (λ l. realAt prices rows p k l) (prices .locations)) 12
 
 unfoldable pub paths : Prices → List Transaction → ℕ → ℤ
-paths prices txs p =
-    sumTo (λ i. sumTo (λ j. pos 12 *ℤ aheadPath prices txs p i j) (prices .locations)) (prices .locations)
-    +ℤ sumTo (λ k. sumTo (λ i. sumTo (λ j. realPath prices txs p k i j) (prices .locations)) (prices .locations)) 12
+paths prices transactions p =
+    sumTo (λ i. sumTo (λ j. pos 12 *ℤ aheadPath prices transactions p i j) (prices .locations)) (prices .locations)
+    +ℤ sumTo (λ k. sumTo (λ i. sumTo (λ j. realPath prices transactions p k i j) (prices .locations)) (prices .locations)) 12
 
 unfoldable pub charge : Prices → List Row → List Transaction → ℕ → ℤ
-charge prices rows txs p = positions prices rows p +ℤ paths prices txs p
+charge prices rows transactions p = positions prices rows p +ℤ paths prices transactions p
