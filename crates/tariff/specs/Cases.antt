@@ -2,13 +2,15 @@
 use mathlib.Core.Path.{_≡_, refl}
 use mathlib.Core.List.{List, [], _∷_, _++_}
 use Prim.Native.Nat.{ℕ, _*_}
-use lib.IntN.{ℤ, pos, negsuc}
-use Rattle.ints.specs.Sum.{Σℤ, sumTo}
+use lib.IntN.{ℤ, pos, negsuc, negℤ}
 use Rattle.ints.specs.Every.{owed}
+use Rattle.ints.specs.Sum.{Σℤ, sumTo}
 use Rattle.rows.specs.declared.Row.{Row}
 use Rattle.rows.specs.declared.Transaction.{Transaction}
-use Rattle.tariff.specs.Tariff.{Prices, priceList, aheadAt, realAt, aheadPath, realPath, positions, paths, charge}
 use Rattle.tariff.specs.Parts.{aheadWeight, rowPart, transactionPart, rowParts, transactionParts}
+use Rattle.tariff.specs.Tariff.{Prices, priceList, aheadAt, realAt, aheadPath, realPath, positions, paths, charge}
+
+-- ---- to write rows and prices by
 
 abbrev row : ℕ → ℕ → ℕ → ℕ → ℕ → ℕ → Row
 row m kind k p l kw = record { market = m; kind = kind; interval = k; participant = p; location = l; kw = record { 0 = kw } }
@@ -16,61 +18,150 @@ row m kind k p l kw = record { market = m; kind = kind; interval = k; participan
 abbrev transaction : ℕ → ℕ → ℕ → ℕ → ℕ → ℕ → Transaction
 transaction m k p source sink kw = record { market = m; interval = k; participant = p; source = source; sink = sink; kw = record { 0 = kw } }
 
--- the same prices in each of the 12 intervals
-abbrev twelve : List ℤ → List ℤ
-twelve xs = xs ++ xs ++ xs ++ xs ++ xs ++ xs ++ xs ++ xs ++ xs ++ xs ++ xs ++ xs
+-- participant 0's MW in day-ahead, and in real time in interval k: kind, location, MW
+abbrev ahead : ℕ → ℕ → ℕ → Row
+ahead kind l mw = row 0 kind 0 0 l (1000 * mw)
 
--- ---- 002, day-ahead loss: 200 MW and 10 MW withdrawn at 0.60 and 0.38; 100, 110 and 10 MW injected at 0.60, 0.12, 0.12: 49.40 dollars
+abbrev real : ℕ → ℕ → ℕ → ℕ → Row
+real k kind l mw = row 1 kind k 0 l (1000 * mw)
 
-abbrev losses : List ℤ
-losses = pos 600 ∷ pos 380 ∷ pos 120 ∷ []
+-- what f gives in each of the 12 intervals
+abbrev each : {A : Type 0} → (ℕ → List A) → List A
+each f = f 0 ++ f 1 ++ f 2 ++ f 3 ++ f 4 ++ f 5 ++ f 6 ++ f 7 ++ f 8 ++ f 9 ++ f 10 ++ f 11
 
--- in market m and interval k
-abbrev positionsOf002 : ℕ → ℕ → List Row
-positionsOf002 m k =
-    row m 0 k 0 0 200000 ∷ row m 2 k 0 1 10000 ∷ row m 1 k 0 0 100000 ∷ row m 1 k 0 2 110000 ∷ row m 3 k 0 2 10000 ∷ []
+-- the same prices in each
+abbrev alike : List ℤ → List ℤ
+alike prices = each (λ k. prices)
 
--- real-time prices of 0
-day-ahead-alone : charge (priceList 3 losses []) (positionsOf002 0 0) [] 0 ≡ pos (4940 * 120000)
+abbrev cents : ℕ → ℤ
+cents n = pos (n * 120000)
+
+-- ---- document 002: participant ABC's bills, positions
+
+-- locations are its buses C (0), D (1), A (2) and E (3). Kinds: 0 its load, 1 generation, 3 the purchase, 4 and 5 its decrement bid and increment offer
+abbrev schedule : List Row
+schedule = ahead 0 0 200 ∷ ahead 4 1 10 ∷ ahead 3 0 100 ∷ ahead 1 2 110 ∷ ahead 5 2 10 ∷ []
+
+-- alike in every interval. Solitude's 37 MW at bus C come in real time only; the bid and the offer have no real-time row
+abbrev actual : ℕ → List Row
+actual k = real k 0 0 220 ∷ real k 3 0 100 ∷ real k 1 2 110 ∷ real k 1 0 37 ∷ []
+
+abbrev both : List Row
+both = schedule ++ each actual
+
+abbrev congestionAhead : List ℤ
+congestionAhead = pos 13240 ∷ pos 19620 ∷ pos 4520 ∷ pos 0 ∷ []
+
+abbrev congestionReal : List ℤ
+congestionReal = pos 18400 ∷ pos 17810 ∷ pos 3100 ∷ pos 0 ∷ []
+
+abbrev lossAhead : List ℤ
+lossAhead = pos 600 ∷ pos 380 ∷ pos 120 ∷ pos 0 ∷ []
+
+abbrev lossReal : List ℤ
+lossReal = pos 860 ∷ pos 440 ∷ pos 150 ∷ pos 0 ∷ []
+
+-- prices that are left out count 0, so that the other market's bill stands alone
+
+-- 2,844.20 dollars less 1,866.40
+day-ahead-congestion : charge (priceList 4 congestionAhead []) schedule [] 0 ≡ cents 97780
 unfolding charge positions paths aheadAt realAt aheadPath realPath Σℤ sumTo
-day-ahead-alone = refl
+day-ahead-congestion = refl
 
--- or the day-ahead positions met in every interval
-abbrev metInFull : List Row
-metInFull =
-    positionsOf002 0 0 ++ positionsOf002 1 0 ++ positionsOf002 1 1 ++ positionsOf002 1 2 ++ positionsOf002 1 3 ++ positionsOf002 1 4 ++ positionsOf002 1 5
-    ++ positionsOf002 1 6 ++ positionsOf002 1 7 ++ positionsOf002 1 8 ++ positionsOf002 1 9 ++ positionsOf002 1 10 ++ positionsOf002 1 11
+-- 123.80 less 74.40
+day-ahead-loss : charge (priceList 4 lossAhead []) schedule [] 0 ≡ cents 4940
+unfolding charge positions paths aheadAt realAt aheadPath realPath Σℤ sumTo
+day-ahead-loss = refl
 
-met-in-full : charge (priceList 3 losses (twelve (pos 700 ∷ negsuc 49 ∷ pos 20 ∷ []))) metInFull [] 0 ≡ pos (4940 * 120000)
+-- 368.00 less 178.10 is 189.90, where the course prints 190.00; so 189.90 less 649.80, -459.90, where it prints -459.80
+balancing-congestion : charge (priceList 4 [] (alike congestionReal)) both [] 0 ≡ negℤ (cents 45990)
+unfolding charge positions paths aheadAt realAt aheadPath realPath Σℤ sumTo
+balancing-congestion = refl
+
+-- 12.80 less 30.32
+balancing-loss : charge (priceList 4 [] (alike lossReal)) both [] 0 ≡ negℤ (cents 1752)
+unfolding charge positions paths aheadAt realAt aheadPath realPath Σℤ sumTo
+balancing-loss = refl
+
+-- the hour's charge is the two bills together: 977.80 less 459.90, and 49.40 less 17.52
+whole-congestion : charge (priceList 4 congestionAhead (alike congestionReal)) both [] 0 ≡ cents 51790
+unfolding charge positions paths aheadAt realAt aheadPath realPath Σℤ sumTo
+whole-congestion = refl
+
+whole-loss : charge (priceList 4 lossAhead (alike lossReal)) both [] 0 ≡ cents 3188
+unfolding charge positions paths aheadAt realAt aheadPath realPath Σℤ sumTo
+whole-loss = refl
+
+-- ---- document 002: its purchase of 100 MW from bus E to bus C, as a transaction
+
+abbrev purchase : List Transaction
+purchase = transaction 0 0 0 3 0 100000 ∷ each (λ k. transaction 1 k 0 3 0 100000 ∷ [])
+
+-- 1,324 dollars day-ahead; the balancing charge is 0
+purchase-congestion : charge (priceList 4 congestionAhead (alike congestionReal)) [] purchase 0 ≡ cents 132400
+unfolding charge positions paths aheadAt realAt aheadPath realPath Σℤ sumTo
+purchase-congestion = refl
+
+-- 60 dollars
+purchase-loss : charge (priceList 4 lossAhead (alike lossReal)) [] purchase 0 ≡ cents 6000
+unfolding charge positions paths aheadAt realAt aheadPath realPath Σℤ sumTo
+purchase-loss = refl
+
+-- ---- the schedule met in every interval, by other kinds that withdraw and inject as much: the day-ahead bill, whatever the real-time prices
+
+abbrev met : ℕ → List Row
+met k = real k 0 0 200 ∷ real k 2 1 10 ∷ real k 1 0 100 ∷ real k 3 2 120 ∷ []
+
+met-in-full : charge (priceList 4 lossAhead (alike (pos 700 ∷ negsuc 49 ∷ pos 20 ∷ pos 0 ∷ []))) (schedule ++ each met) [] 0 ≡ cents 4940
 unfolding charge positions paths aheadAt realAt aheadPath realPath Σℤ sumTo
 met-in-full = refl
 
--- ---- the statement program's file: 1,000 and 390 cents of loss
+-- ---- document 01, the statement program: 1,000 and 390 cents of loss
 
 abbrev statement : List Row
 statement = row 1 0 0 0 1 200000 ∷ row 1 1 0 1 0 110000 ∷ row 1 2 0 1 1 100000 ∷ []
 
 abbrev statementPrices : Prices
-statementPrices = priceList 2 (pos 120 ∷ pos 600 ∷ []) (twelve (pos 120 ∷ pos 600 ∷ []))
+statementPrices = priceList 2 (pos 120 ∷ pos 600 ∷ []) (alike (pos 120 ∷ pos 600 ∷ []))
 
-statement-0 : charge statementPrices statement [] 0 ≡ pos (1000 * 120000)
+statement-0 : charge statementPrices statement [] 0 ≡ cents 1000
 unfolding charge positions paths aheadAt realAt aheadPath realPath Σℤ sumTo
 statement-0 = refl
 
-statement-1 : charge statementPrices statement [] 1 ≡ pos (390 * 120000)
+statement-1 : charge statementPrices statement [] 1 ≡ cents 390
 unfolding charge positions paths aheadAt realAt aheadPath realPath Σℤ sumTo
 statement-1 = refl
 
 -- the same by the parts
-statement-parts : rowParts statementPrices statement 1 ≡ pos (390 * 120000)
+statement-parts : rowParts statementPrices statement 1 ≡ cents 390
 unfolding owed rowPart aheadWeight Σℤ sumTo
 statement-parts = refl
+
+-- ---- one location, whose real-time prices are 1, 2, .. 12 mills, and 0 day-ahead
+
+abbrev rising : Prices
+rising = priceList 1 (pos 0 ∷ []) (pos 1 ∷ pos 2 ∷ pos 3 ∷ pos 4 ∷ pos 5 ∷ pos 6 ∷ pos 7 ∷ pos 8 ∷ pos 9 ∷ pos 10 ∷ pos 11 ∷ pos 12 ∷ [])
+
+-- 10 kW of load day-ahead and no real-time row: taken back in every interval, 10 by 78
+no-real-time-row : charge rising (row 0 0 0 0 0 10 ∷ []) [] 0 ≡ negℤ (pos 780)
+unfolding charge positions paths aheadAt realAt aheadPath realPath Σℤ sumTo
+no-real-time-row = refl
+
+-- 10 kW of generation: paid in every interval
+no-real-time-injection : charge rising (row 0 1 0 0 0 10 ∷ []) [] 0 ≡ pos 780
+unfolding charge positions paths aheadAt realAt aheadPath realPath Σℤ sumTo
+no-real-time-injection = refl
+
+-- 1 kW in interval 0: a twelfth, which no price over 12 in whole mills gives
+one-twelfth : charge rising (row 1 0 0 0 0 1 ∷ []) [] 0 ≡ pos 1
+unfolding charge positions paths aheadAt realAt aheadPath realPath Σℤ sumTo
+one-twelfth = refl
 
 -- ---- a path from 0 to 1, 100 kW day-ahead (price 200 higher at the sink), and 150 kW in interval 3 (150 higher): 12 times 100 by 200, and 50 by 150 charged in
 -- interval 3, and 100 by 150 paid in the 11 others
 
 abbrev pathPrices : Prices
-pathPrices = priceList 2 (pos 100 ∷ pos 300 ∷ []) (twelve (pos 100 ∷ pos 250 ∷ []))
+pathPrices = priceList 2 (pos 100 ∷ pos 300 ∷ []) (alike (pos 100 ∷ pos 250 ∷ []))
 
 abbrev path : List Transaction
 path = transaction 0 0 0 0 1 100 ∷ transaction 1 3 0 0 1 150 ∷ []
