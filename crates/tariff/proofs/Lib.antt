@@ -1,4 +1,5 @@
 pub mod Terms
+pub mod Forms
 pub mod Theorem
 pub mod Own
 pub mod Sign

@@ -1,20 +1,20 @@
 -- The pieces of the theorem: identities of ℤ, what one element of a list counts over the hour, and how the tariff's terms are sums over a list. Assumes nothing.
 use mathlib.Core.Path.{_≡_, refl, sym, ap, _∙_, subst}
-use mathlib.Core.List.{List}
-use mathlib.Core.Bool.{Bool, true, false, _&&_}
 use mathlib.Core.Logic.{⊎-elim}
+use mathlib.Core.Bool.{Bool, true, false, _&&_}
+use mathlib.Core.List.{List}
 use Prim.Native.Nat.{ℕ, zero, suc, _<_}
 use native.Mathlib.Omega.{arith}
 use lib.Dec.{eqb}
 use lib.IntN.{ℤ, pos, negsuc, negℤ, _+ℤ_, _-ℤ_, _*ℤ_, +ℤ-idl, +ℤ-idr, +ℤ-comm, negℤ-+ℤ, negℤ-negℤ}
-use Rattle.ints.specs.Sum.{Σℤ, sumTo, only}
-use Rattle.ints.specs.Refusal.{pick}
 use Rattle.ints.specs.Every.{Every}
+use Rattle.ints.specs.Refusal.{pick}
+use Rattle.ints.specs.Sum.{Σℤ, sumTo, only}
 use Rattle.ints.proofs.Diff.{_⊖_, ⊖-laws, ⊖-eq, ind2, ind3}
-use Rattle.ints.proofs.Sums.{Σ-plus, sumTo-ext, sumTo-neg, sumTo-scale, sumTo-nil}
 use Rattle.ints.proofs.Gather.{Σ-ext-on, Σ-minus, swap, one-place}
-use Rattle.tariff.specs.Tariff.{dayAhead, realTime, positive, above}
+use Rattle.ints.proofs.Sums.{Σ-plus, sumTo-ext, sumTo-neg, sumTo-scale, sumTo-nil}
 use Rattle.rows.specs.Tested.{Timed}
+use Rattle.tariff.specs.Tariff.{dayAhead, realTime, positive, above}
 
 -- ---- identities of ℤ
 

@@ -1,23 +1,23 @@
 -- THE THEOREM: the parts of p's rows and transactions, added up, are the tariff's charge. Assumes nothing.
 use mathlib.Core.Path.{_≡_, refl, sym, ap, ap₂, _∙_}
-use mathlib.Core.List.{List}
 use mathlib.Core.Bool.{Bool, true, false, _&&_}
+use mathlib.Core.List.{List}
 use Prim.Native.Nat.{ℕ, _<_}
 use native.Mathlib.Nat.{one-mul}
 use native.Mathlib.Omega.{arith}
 use lib.Dec.{eqb}
 use lib.IntN.{ℤ, pos, negℤ, _+ℤ_, _-ℤ_, _*ℤ_, +ℤ-idl, +ℤ-invr, zero-*ℤ}
-use Rattle.ints.specs.Sum.{Σℤ, sumTo, only}
+use Rattle.ints.specs.Every.{Every, owed}
 use Rattle.ints.specs.Refusal.{pick}
-use Rattle.ints.specs.Every.{Every}
-use Rattle.ints.specs.Every.{owed}
-use Rattle.ints.proofs.Sums.{Σ-ext, sumTo-ext}
+use Rattle.ints.specs.Sum.{Σℤ, sumTo, only}
 use Rattle.ints.proofs.Gather.{every-map, Σ-minus, Σ-only-mul, Σ-only-scale, sumTo-minus, gather, gather-pairs}
+use Rattle.ints.proofs.Sums.{Σ-ext, sumTo-ext}
 use Rattle.rows.specs.declared.Row.{Row}
 use Rattle.rows.specs.declared.Transaction.{Transaction}
-use Rattle.tariff.specs.Tariff.{Prices, P, C, A, B, D, E, withdraws, injects, ownRow, ownTransaction, withdrawn, injected, carried, aheadAt, realAt, aheadPath, realPath, excess, shortfall, positions, paths, charge}
 use Rattle.tariff.specs.Parts.{sign, aheadWeight, weight, rowPart, transactionPart, rowParts, transactionParts, RowPlaced, TransactionPlaced}
-use Rattle.tariff.proofs.Terms.{factor, by-market, apart, above-less, hours, real}
+use Rattle.tariff.specs.Tariff.{Prices, P, C, A, B, D, E, withdraws, injects, ownRow, ownTransaction, withdrawn, injected, carried, aheadAt, realAt, aheadPath, realPath, positions, paths, charge}
+use Rattle.tariff.proofs.Forms.{ahead-form, real-form, path-form}
+use Rattle.tariff.proofs.Terms.{factor, by-market, apart, hours}
 
 -- ---- rows: withdrawn less injected is the sum of signed kW
 
@@ -37,37 +37,34 @@ signed r = sign (r .kind) *ℤ pos (r .kw .0)
 
 module _ (rows : List Row) (p : ℕ) where
   -- which rows stand at a location
-  abbrev at : ℕ → ℕ → ℕ → Row → Bool
-  at m k l r = ownRow m k p r && eqb (r .location) l
+  abbrev stands : ℕ → ℕ → ℕ → Row → Bool
+  stands m k l r = ownRow m k p r && eqb (r .location) l
 
   -- their signed kW
   abbrev net : ℕ → ℕ → ℕ → ℤ
-  net m k l = Σℤ (λ r. only (at m k l r) (signed r)) rows
+  net m k l = Σℤ (λ r. only (stands m k l r) (signed r)) rows
 
   net-is : (m k l : ℕ) → withdrawn rows m k p l -ℤ injected rows m k p l ≡ net m k l
   net-is m k l =
-      sym (Σ-minus (λ r. only (withdraws (r .kind) && at m k l r) (pos (r .kw .0))) (λ r. only (injects (r .kind) && at m k l r) (pos (r .kw .0))) rows)
-      ∙ Σ-ext _ _ rows (λ r. signed-one (withdraws (r .kind)) (injects (r .kind)) (at m k l r) (r .kw .0))
+      sym (Σ-minus (λ r. only (withdraws (r .kind) && stands m k l r) (pos (r .kw .0))) (λ r. only (injects (r .kind) && stands m k l r) (pos (r .kw .0))) rows)
+      ∙ Σ-ext _ _ rows (λ r. signed-one (withdraws (r .kind)) (injects (r .kind)) (stands m k l r) (r .kw .0))
 
   -- a price goes into the sum
-  priced : (m k l : ℕ) (c : ℤ) → net m k l *ℤ c ≡ Σℤ (λ r. only (at m k l r) (signed r *ℤ c)) rows
-  priced m k l c = Σ-only-mul (at m k l) signed c rows
+  priced : (m k l : ℕ) (c : ℤ) → net m k l *ℤ c ≡ Σℤ (λ r. only (stands m k l r) (signed r *ℤ c)) rows
+  priced m k l c = Σ-only-mul (stands m k l) signed c rows
 
 module _ (prices : Prices) (rows : List Row) (p : ℕ) where
   -- day-ahead at a location
-  ahead-at : (l : ℕ) → pos 12 *ℤ aheadAt prices rows p l ≡ Σℤ (λ r. only (at rows p 0 0 l r) (pos 12 *ℤ (signed r *ℤ P prices l))) rows
-  unfolding aheadAt
+  ahead-at : (l : ℕ) → pos 12 *ℤ aheadAt prices rows p l ≡ Σℤ (λ r. only (stands rows p 0 0 l r) (pos 12 *ℤ (signed r *ℤ P prices l))) rows
   ahead-at l =
-      ap (λ (z : ℤ). pos 12 *ℤ z)
-      (factor (withdrawn rows 0 0 p l) (injected rows 0 0 p l) (P prices l) ∙ ap (λ (z : ℤ). z *ℤ P prices l) (net-is rows p 0 0 l) ∙ priced rows p 0 0 l (P prices l))
-      ∙ Σ-only-scale (pos 12) (at rows p 0 0 l) (λ r. signed r *ℤ P prices l) rows
+      ap (λ (z : ℤ). pos 12 *ℤ z) (ahead-form prices rows p l ∙ ap (λ (z : ℤ). z *ℤ P prices l) (net-is rows p 0 0 l) ∙ priced rows p 0 0 l (P prices l))
+      ∙ Σ-only-scale (pos 12) (stands rows p 0 0 l) (λ r. signed r *ℤ P prices l) rows
 
   -- the bracket: real time less day-ahead
   real-at : (k l : ℕ) → realAt prices rows p k l
-      ≡ Σℤ (λ r. only (at rows p 1 k l r) (signed r *ℤ C prices k l)) rows -ℤ Σℤ (λ r. only (at rows p 0 0 l r) (signed r *ℤ C prices k l)) rows
-  unfolding realAt
+      ≡ Σℤ (λ r. only (stands rows p 1 k l r) (signed r *ℤ C prices k l)) rows -ℤ Σℤ (λ r. only (stands rows p 0 0 l r) (signed r *ℤ C prices k l)) rows
   real-at k l =
-      factor (A rows p k l -ℤ B rows p l) (D rows p k l -ℤ E rows p l) (C prices k l)
+      real-form prices rows p k l
       ∙ ap (λ (z : ℤ). z *ℤ C prices k l) (by-market (A rows p k l) (B rows p l) (D rows p k l) (E rows p l) ∙ ap₂ _-ℤ_ (net-is rows p 1 k l) (net-is rows p 0 0 l))
       ∙ sym (factor (net rows p 1 k l) (net rows p 0 0 l) (C prices k l))
       ∙ ap₂ _-ℤ_ (priced rows p 1 k l (C prices k l)) (priced rows p 0 0 l (C prices k l))
@@ -119,13 +116,11 @@ module _ (prices : Prices) (transactions : List Transaction) (p : ℕ) where
       ap (λ (z : ℤ). pos 12 *ℤ z) (Σ-only-mul (on 0 0 i j) kw (aheadRise i j) transactions)
       ∙ Σ-only-scale (pos 12) (on 0 0 i j) (λ t. kw t *ℤ aheadRise i j) transactions
 
-  -- the excess less the shortfall is real time less day-ahead
+  -- real time less day-ahead
   real-on : (k i j : ℕ) → realPath prices transactions p k i j
       ≡ Σℤ (λ t. only (on 1 k i j t) (kw t *ℤ rise k i j)) transactions -ℤ Σℤ (λ t. only (on 0 0 i j t) (kw t *ℤ rise k i j)) transactions
-  unfolding realPath
   real-on k i j =
-      factor (excess transactions p k i j) (shortfall transactions p k i j) (rise k i j)
-      ∙ ap (λ (z : ℤ). z *ℤ rise k i j) (above-less (carried transactions 1 k p i j) (carried transactions 0 0 p i j))
+      path-form prices transactions p k i j
       ∙ sym (factor (carried transactions 1 k p i j) (carried transactions 0 0 p i j) (rise k i j))
       ∙ ap₂ _-ℤ_ (Σ-only-mul (on 1 k i j) kw (rise k i j) transactions) (Σ-only-mul (on 0 0 i j) kw (rise k i j) transactions)
 
