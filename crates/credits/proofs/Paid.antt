@@ -116,6 +116,17 @@ module _ (surplus : ℤ) (shares : List ℤ) (n : ℕ) (some : 1 ≤ length shar
   pub within : (r : ℕ) → r ≡ refusal surplus shares n → r ≢ 2 → r ≡ paidRefusal surplus shares
   within r e other = e ∙ sym (renumbered ∙ ap (λ (b : Bool). pick b 10 (refusal surplus shares n)) (ne-eqb (refusal surplus shares n) 2 (λ two. other (e ∙ two))))
 
+  -- accepted here, accepted there
+  pub split-accepts : paidRefusal surplus shares ≡ 0 → refusal surplus shares n ≡ 0
+  split-accepts e = by (eqb (refusal surplus shares n) 2) (sym renumbered ∙ e)
+    where
+      not-ten : _≡_ {A = ℕ} 10 0 → ⊥
+      not-ten q = omega arith
+
+      by : (two : Bool) → pick two 10 (refusal surplus shares n) ≡ 0 → refusal surplus shares n ≡ 0
+      by true q = absurd (not-ten q)
+      by false q = q
+
 -- ---- the credits
 
 pub credits-cents : (surplus : ℤ) (shares : List ℤ) (n : ℕ) → refusal surplus shares n ≡ 0 → InCents (parts surplus shares)
