@@ -3,20 +3,20 @@ use mathlib.Core.Path.{_≡_, refl, sym, ap, ap₂, _∙_, subst}
 use mathlib.Core.Logic.{_≢_, ⊎-elim}
 use mathlib.Core.Bool.{Bool, true, false, _||_}
 use mathlib.Core.List.{List, [], _∷_, _++_}
-use Prim.Native.Nat.{ℕ, suc, _+_, _≤_, _<_}
+use Prim.Native.Nat.{ℕ, _+_, _≤_, _<_}
 use native.Mathlib.Decide.{decLt}
-use native.Mathlib.Nat.{eq-or-lt-of-le, le-of-suc-le-suc}
+use native.Mathlib.Nat.{eq-or-lt-of-le}
 use native.Mathlib.Numerals.{add-one}
 use native.Mathlib.Omega.{arith}
 use lib.Dec.{ltb, eqb}
 use lib.IntN.{ℤ, pos, negℤ, natAbs}
-use lib.ListN.{length, take, set, length-set, List·getD-eq-default}
+use lib.ListN.{length, take, set, List·getD-eq-default}
 use lib.Seq.{take-all, take-suc, take-suc-set, getD-set-other}
 use lib.Signed.{natAbs-le}
 use mir.Syntax.{w64}
 use mir.Val.{SFits}
 use borrow.Author.Tests.{le-leb, eq-eqb, ne-eqb}
-use Rattle.ints.specs.Number.{Within, below0, signed, between}
+use Rattle.ints.specs.Number.{below0, signed, between}
 use Rattle.ints.specs.Refusal.{pick, unless}
 use Rattle.ints.specs.Table.{_at_, tab, all}
 use Rattle.ints.proofs.Signs.{size-signed}
@@ -25,7 +25,7 @@ use Rattle.units.specs.Units.{wholeCents, centsOf}
 use Rattle.split.specs.Split.{total, part, parts, refusal}
 use Rattle.split.proofs.Accepted.{accepted}
 use Rattle.split.proofs.Laws.{length-parts, part-most, no-size}
-use Rattle.credits.specs.Facts.{InCents}
+use Rattle.credits.specs.Facts.{mostCents, InCents}
 use Rattle.credits.specs.Paid.{rounded, paidRefusal}
 
 -- ---- rounding
@@ -39,15 +39,15 @@ unfolding rounded
 rounded-at exact p l = getD-tab (λ p. centsOf (exact at p)) (pos 0) (length exact) p l
 
 -- what 64 bits hold comes to so many cents
-pub cents-most : (x : ℤ) → SFits w64 x → natAbs (centsOf x) ≤ 76861433640456
+pub cents-most : (x : ℤ) → SFits w64 x → natAbs (centsOf x) ≤ mostCents
 unfolding centsOf
 cents-most x f = omega (arith, size-signed (below0 x) (wholeCents (natAbs x)), natAbs-le x (f .sfits))
 
 -- a list is in cents where each number of it is, as past its end 0 stands
-pub in-cents : (list : List ℤ) → ((p : ℕ) → p < length list → natAbs (list at p) ≤ 76861433640456) → InCents list
+pub in-cents : (list : List ℤ) → ((p : ℕ) → p < length list → natAbs (list at p) ≤ mostCents) → InCents list
 in-cents list h = record { each = λ p. record { within = here p (decLt p (length list)) } }
   where
-    here : (p : ℕ) → Dec (p < length list) → natAbs (list at p) ≤ 76861433640456
+    here : (p : ℕ) → Dec (p < length list) → natAbs (list at p) ≤ mostCents
     here p (yes l) = h p l
     here p (no l) = omega (arith, ap natAbs (List·getD-eq-default list (pos 0) {n = p} (omega arith)))
 
@@ -110,11 +110,11 @@ module _ (surplus : ℤ) (shares : List ℤ) (n : ℕ) (some : 1 ≤ length shar
       by true true false = refl
       by true true true = refl
 
-  pub beyond : (r : ℕ) → r ≡ refusal surplus shares n → r ≡ 2 → 10 ≡ paidRefusal surplus shares
-  beyond r e two = sym (renumbered ∙ ap (λ (b : Bool). pick b 10 (refusal surplus shares n)) (eq-eqb (refusal surplus shares n) 2 (sym e ∙ two)))
+  pub ten-for-two : (r : ℕ) → r ≡ refusal surplus shares n → r ≡ 2 → 10 ≡ paidRefusal surplus shares
+  ten-for-two r e two = sym (renumbered ∙ ap (λ (b : Bool). pick b 10 (refusal surplus shares n)) (eq-eqb (refusal surplus shares n) 2 (sym e ∙ two)))
 
-  pub within : (r : ℕ) → r ≡ refusal surplus shares n → r ≢ 2 → r ≡ paidRefusal surplus shares
-  within r e other = e ∙ sym (renumbered ∙ ap (λ (b : Bool). pick b 10 (refusal surplus shares n)) (ne-eqb (refusal surplus shares n) 2 (λ two. other (e ∙ two))))
+  pub same-number : (r : ℕ) → r ≡ refusal surplus shares n → r ≢ 2 → r ≡ paidRefusal surplus shares
+  same-number r e other = e ∙ sym (renumbered ∙ ap (λ (b : Bool). pick b 10 (refusal surplus shares n)) (ne-eqb (refusal surplus shares n) 2 (λ two. other (e ∙ two))))
 
   -- accepted here, accepted there
   pub split-accepts : paidRefusal surplus shares ≡ 0 → refusal surplus shares n ≡ 0
@@ -141,5 +141,5 @@ credits-cents surplus shares n e = in-cents (parts surplus shares) (λ p l. smal
         (λ z. omega (arith, ap (λ (size : ℕ). part size shares p) z ∙ no-size shares p))
         (a .some)
 
-    small : (p : ℕ) → p < length shares → natAbs (parts surplus shares at p) ≤ 76861433640456
+    small : (p : ℕ) → p < length shares → natAbs (parts surplus shares at p) ≤ mostCents
     small p l = omega (arith, part-small p l, ap natAbs (getD-tab (λ i. signed (below0 surplus) (part (natAbs surplus) shares i)) (pos 0) (length shares) p l) ∙ size-signed (below0 surplus) (part (natAbs surplus) shares p))

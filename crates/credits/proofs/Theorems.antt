@@ -2,19 +2,18 @@
 use mathlib.Core.Path.{_≡_, refl, sym, ap, ap₂, _∙_}
 use mathlib.Core.List.{List}
 use Prim.Native.Nat.{ℕ, _≤_}
-use lib.Dec.{eqb}
-use lib.IntN.{ℤ, pos, negℤ, _+ℤ_, _-ℤ_, +ℤ-assoc, +ℤ-idr, +ℤ-invr}
+use lib.IntN.{ℤ, pos, negℤ, _+ℤ_, +ℤ-assoc, +ℤ-idr, +ℤ-invr}
 use lib.ListN.{length}
 use Rattle.ints.specs.Sum.{sumTo}
 use Rattle.ints.specs.Table.{_at_}
 use Rattle.ints.proofs.Sums.{sumTo-ext, sumTo-plus, sumTo-neg}
 use Rattle.ints.proofs.Tables.{length-tab, getD-tab}
 use Rattle.split.specs.Fair.{Fair}
-use Rattle.split.specs.Split.{parts, refusal}
+use Rattle.split.specs.Split.{parts}
 use Rattle.split.proofs.Demand3.{fair}
 use Rattle.split.proofs.Laws.{length-parts}
 use Rattle.credits.specs.Paid.{rounded, summed, surplusOf, paidRefusal, netAt, netted}
-use Rattle.credits.proofs.Paid.{split-accepts}
+use Rattle.credits.proofs.Paid.{length-rounded, split-accepts}
 
 module _ (surplus : ℤ) (shares : List ℤ) (some : 1 ≤ length shares) (few : length shares ≤ 64) (accepts : paidRefusal surplus shares ≡ 0) where
   -- demand 3 of the credits: document 01's trap "Rounding each credit alone, or giving the odd cents to the last party"
@@ -44,3 +43,12 @@ nets-sum congestion loss credit l k same =
 
     cancelled : (x y : ℤ) → (x +ℤ y) +ℤ negℤ y ≡ x
     cancelled x y = +ℤ-assoc x y (negℤ y) ∙ ap (λ (z : ℤ). x +ℤ z) (+ℤ-invr y) ∙ +ℤ-idr x
+
+-- so they do where the surplus is accepted, each list with a number for each participant
+pub paid-nets-sum : (charged lost shares : List ℤ) → 1 ≤ length shares → length shares ≤ 64 → length charged ≡ length shares → length lost ≡ length shares → paidRefusal (surplusOf lost) shares ≡ 0
+    → summed (netted (rounded charged) (rounded lost) (parts (surplusOf lost) shares)) ≡ summed (rounded charged)
+paid-nets-sum charged lost shares some few c l accepts =
+    nets-sum (rounded charged) (rounded lost) (parts (surplusOf lost) shares)
+    (length-rounded lost ∙ l ∙ sym c ∙ sym (length-rounded charged))
+    (length-parts (surplusOf lost) shares ∙ sym c ∙ sym (length-rounded charged))
+    (same-cents lost shares some few accepts)

@@ -18,6 +18,9 @@ pub record Lists (participants : ℕ) (charged lost congestion loss credit net :
   pub credit-each : length credit ≡ participants
   pub net-each : length net ≡ participants
 
--- cents that twelfths of 64 bits are rounded to: 64 of them, and the three of a net, add up within 64 bits
+-- the most cents that twelfths of 64 bits are rounded to: 64 times as many fit 64 bits too
+abbrev pub mostCents : ℕ
+mostCents = 76861433640456
+
 pub record InCents (list : List ℤ) : Type 0 where
-  pub each : (p : ℕ) → Within (list at p) 76861433640456
+  pub each : (p : ℕ) → Within (list at p) mostCents

@@ -7,9 +7,10 @@ ghost use lib.IntN.{ℤ, _+ℤ_, _-ℤ_};
 ghost use Rattle.ints.specs.Number.{Within};
 ghost use Rattle.ints.specs.Refusal.{lent};
 ghost use Rattle.split.specs.Split.{parts};
-ghost use Rattle.credits.specs.Facts.{Lists, InCents};
+ghost use Rattle.credits.specs.Facts.{Lists, mostCents, InCents};
 ghost use Rattle.credits.specs.Paid.{rounded, summed, surplusOf, paidRefusal, netted};
-use units::{Cents, Twelfths};
+use units::Cents;
+use units::Twelfths;
 
 // Every number of a list rounded, from twelfths to cents.
 fn round(list: &mut [i64])
@@ -40,14 +41,21 @@ fn sum(list: &[i64]) -> i64
 
 // The charges less the credit.
 fn net_of(congestion: Cents, loss: Cents, credit: Cents) -> Cents
-    requires { ⌜ Within (congestion .0) 76861433640456 × Within (loss .0) 76861433640456 × Within (credit .0) 76861433640456 ⌝ }
+    requires { ⌜ Within (congestion .0) mostCents × Within (loss .0) mostCents × Within (credit .0) mostCents ⌝ }
     ensures { λ r. ⌜ r .0 ≡ congestion .0 +ℤ loss .0 -ℤ credit .0 ⌝ }
 {
     Cents(congestion.0 + loss.0 - credit.0)
 }
 
 // The charges and the net into the lists of the hour.
-fn write_out(charged: &[i64], lost: &[i64], credit: &[i64], congestion: &mut [i64], loss: &mut [i64], net: &mut [i64])
+fn write_out(
+    charged: &[i64],
+    lost: &[i64],
+    credit: &[i64],
+    congestion: &mut [i64],
+    loss: &mut [i64],
+    net: &mut [i64],
+)
     requires { ⌜ Lists (length (now charged)) (now charged) (now lost) (now congestion) (now loss) (now credit) (now net) ⌝ }
     requires { ⌜ InCents (now charged) × InCents (now lost) × InCents (now credit) ⌝ }
     ensures { λ _. ⌜ now (congestion .exit) ≡ now (charged .entry) ⌝ }
@@ -66,7 +74,15 @@ fn write_out(charged: &[i64], lost: &[i64], credit: &[i64], congestion: &mut [i6
 
 // An hour's charges rounded, the surplus split over the shares, and each participant's net. `charged` and `lost`, the
 // exact congestion and loss charges, become cents whatever the answer is.
-pub fn pay(charged: &mut [i64], lost: &mut [i64], shares: &[i64], congestion: &mut [i64], loss: &mut [i64], credit: &mut [i64], net: &mut [i64]) -> u32
+pub fn pay(
+    charged: &mut [i64],
+    lost: &mut [i64],
+    shares: &[i64],
+    congestion: &mut [i64],
+    loss: &mut [i64],
+    credit: &mut [i64],
+    net: &mut [i64],
+) -> u32
     requires { ⌜ Lists (length (now shares)) (now charged) (now lost) (now congestion) (now loss) (now credit) (now net) ⌝ }
     ensures { λ r. ⌜ r ≡ paidRefusal (surplusOf (now (lost .entry))) (now (shares .entry)) ⌝ }
     ensures { λ _. ⌜ now (charged .exit) ≡ rounded (now (charged .entry)) ⌝ }

@@ -14,17 +14,11 @@ use Rattle.ints.specs.Refusal.{lent}
 use Rattle.ints.proofs.Refusals.{lent-result, kept}
 use Rattle.split.specs.Split.{parts, refusal}
 use Rattle.split.proofs.Laws.{length-parts}
-use Rattle.credits.specs.Facts.{Lists, InCents}
+use Rattle.credits.specs.Facts.{InCents}
 use Rattle.credits.specs.Paid.{rounded, summed, surplusOf, paidRefusal, netted}
-use Rattle.credits.proofs.Paid.{length-rounded, beyond, within, credits-cents}
+use Rattle.credits.proofs.Paid.{length-rounded, ten-for-two, same-number, credits-cents}
 use Rattle.credits.proofs.pay.Statement.{statement}
 use Rattle.credits.proofs.pay.Tie as tie
-use Rattle.credits.proofs.pay.Reads as reads
-use Rattle.credits.proofs.pay.Lts as lts
-use Rattle.credits.proofs.round.Reads as round-reads
-use Rattle.credits.proofs.sum.Reads as sum-reads
-use Rattle.credits.proofs.write_out.Reads as write-out-reads
-use Rattle.split.proofs.split.Reads as split-reads
 
 -- ---- after the split: the lists, the surplus and the answer are those of the definition
 
@@ -78,7 +72,12 @@ module _ (c : tie.After-split) where
   answer-is : c .split .result ≡ refusal surplus shares (length (s .args .credit .now))
   answer-is = c .split .ensures .0 ∙ ap (λ (z : ℤ). refusal z shares (length (s .args .credit .now))) surplus-is
 
-  -- the split's list after it
+  ten : c .split .result ≡ 2 → 10 ≡ paidRefusal surplus shares
+  ten = ten-for-two surplus shares (length (s .args .credit .now)) (s .pre .some) (s .pre .few) (s .pre .credit-each) (c .split .result) answer-is
+
+  as-split : c .split .result ≢ 2 → c .split .result ≡ paidRefusal surplus shares
+  as-split = same-number surplus shares (length (s .args .credit .now)) (s .pre .some) (s .pre .few) (s .pre .credit-each) (c .split .result) answer-is
+
   credit-is : credit ≡ lent (c .split .result) credits (s .args .credit .now)
   credit-is = c .split .ensures .1 ∙ ap₂ (λ (r : ℕ) (z : ℤ). lent r (parts z shares) (s .args .credit .now)) (sym (c .split .ensures .0)) surplus-is
 
@@ -96,73 +95,55 @@ module _ (c : tie.After-split) where
     nets-are : netted charged lost credit ≡ nets
     nets-are = ap₂ (λ (l k : List ℤ). netted charged l k) lost-is made ∙ ap (λ (c : List ℤ). netted c (rounded (s .args .lost .now)) credits) charged-is
 
-    accepts : 0 ≡ paidRefusal surplus shares
-    accepts = sym none ∙ within surplus shares (length (s .args .credit .now)) (s .pre .some) (s .pre .few) (s .pre .credit-each) (c .split .result) answer-is (λ two. not-both (sym none ∙ two))
-      where
-        not-both : _≡_ {A = ℕ} 0 2 → ⊥
-        not-both e = omega arith
-
-
--- src/lib.rt:79:5
 round-requires : tie.Need-round-requires
 round-requires c κs = search needs
 
--- src/lib.rt:80:5
 round-requires-2 : tie.Need-round-requires-2
 round-requires-2 c κs = search needs
 
--- src/lib.rt:81:9
 sum-requires : tie.Need-sum-requires
 sum-requires c κs = search needs
 
--- src/lib.rt:82:9
 split-requires : tie.Need-split-requires
 split-requires c κs = search needs
 
--- src/lib.rt:84:9
 same-length : tie.Need-same-length
 same-length c = search needs
 
--- src/lib.rt:84:9
 same-length-2 : tie.Need-same-length-2
 same-length-2 c = search needs
 
--- src/lib.rt:84:9
 same-length-3 : tie.Need-same-length-3
 same-length-3 c = search needs
 
--- src/lib.rt:84:9
 returns : tie.Need-returns
-returns c = let a = c .before .before in
-    (beyond (surplus a) (shares a) (length (s a .args .credit .now)) (s a .pre .some) (s a .pre .few) (s a .pre .credit-each) (a .split .result) (answer-is a) (c .if1 .taken),
-    (charged-is a, (lost-is a, (refl, (refl, (credit-is a ∙ ap (λ (r : ℕ). lent r (credits a) (s a .args .credit .now)) (c .if1 .taken), refl))))))
+returns c = let a = c .before .before in (
+  ten a (c .if1 .taken),
+  (charged-is a, (lost-is a, (refl, (refl, (credit-is a ∙ ap (λ (r : ℕ). lent r (credits a) (s a .args .credit .now)) (c .if1 .taken), refl))))),
+)
 
--- src/lib.rt:87:9
 same-length-4 : tie.Need-same-length-4
 same-length-4 c = search needs
 
--- src/lib.rt:87:9
 same-length-5 : tie.Need-same-length-5
 same-length-5 c = search needs
 
--- src/lib.rt:87:9
 same-length-6 : tie.Need-same-length-6
 same-length-6 c = search needs
 
--- src/lib.rt:87:9
 returns-2 : tie.Need-returns-2
-returns-2 c = let a = c .before .before .before in
-    (within (surplus a) (shares a) (length (s a .args .credit .now)) (s a .pre .some) (s a .pre .few) (s a .pre .credit-each) (a .split .result) (answer-is a) (c .before .if1 .left),
-    (charged-is a, (lost-is a, (unwritten (rounded (s a .args .charged .now)) (s a .args .congestion .now), (unwritten (rounded (s a .args .lost .now)) (s a .args .loss .now), (credit-is a, unwritten (nets a) (s a .args .net .now)))))))
+returns-2 c = let a = c .before .before .before in (
+  as-split a (c .before .if1 .left),
+  (charged-is a, (lost-is a, (unwritten (rounded (s a .args .charged .now)) (s a .args .congestion .now), (unwritten (rounded (s a .args .lost .now)) (s a .args .loss .now), (credit-is a, unwritten (nets a) (s a .args .net .now)))))),
+)
   where
     unwritten : (result list : List ℤ) → list ≡ lent (c .before .before .before .split .result) result list
     unwritten result list = kept (c .before .before .before .split .result) result list (c .before .before .before .split .result) (c .if2 .taken) refl .1
 
--- src/lib.rt:89:5
 write-out-requires : tie.Need-write-out-requires
 write-out-requires c κs = let e = c .before .before .before .before .before .before in
     let a = e .before .before .before in
-    let p = s a .pre in (
+    (
       record {
         some = omega (arith, charged-each a);
         few = omega (arith, charged-each a);
@@ -176,36 +157,30 @@ write-out-requires c κs = let e = c .before .before .before .before .before .be
       (charged-cents a, lost-cents a, credit-cents a (e .if2 .left)),
     )
 
--- src/lib.rt:69:1
 same-length-7 : tie.Need-same-length-7
 same-length-7 c = search needs
 
--- src/lib.rt:69:1
 same-length-8 : tie.Need-same-length-8
 same-length-8 c = search needs
 
--- src/lib.rt:69:1
 same-length-9 : tie.Need-same-length-9
 same-length-9 c = search needs
 
--- src/lib.rt:69:1
 same-length-10 : tie.Need-same-length-10
 same-length-10 c = search needs
 
--- src/lib.rt:69:1
 same-length-11 : tie.Need-same-length-11
 same-length-11 c = search needs
 
--- src/lib.rt:69:1
 same-length-12 : tie.Need-same-length-12
 same-length-12 c = search needs
 
--- src/lib.rt:69:1
 returns-3 : tie.Need-returns-3
-returns-3 c = let a = c .before .before .before .before .before .before .before .before .before .before .before .before .before in
-    let w = c .before .before .before .write-out in
-    let none = c .before .before .before .before .before .before .before .before .before .before .if2 .left in
-    (accepts a none, (charged-is a, (lost-is a, (w .ensures .0 ∙ charged-is a, (w .ensures .1 .0 ∙ lost-is a, (made a none, w .ensures .1 .1 ∙ nets-are a none))))))
+returns-3 c = let w = c .before .before .before .write-out in
+    let e = c .before .before .before .before .before .before .before .before .before .before in
+    let a = e .before .before .before in
+    let none = e .if2 .left in
+    (sym none ∙ as-split a (e .before .if1 .left), (charged-is a, (lost-is a, (w .ensures .0 ∙ charged-is a, (w .ensures .1 .0 ∙ lost-is a, (made a none, w .ensures .1 .1 ∙ nets-are a none))))))
 
 pub pay-spec : {M : Type 1} → statement M
 pay-spec =

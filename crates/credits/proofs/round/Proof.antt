@@ -1,17 +1,15 @@
+-- `credits::round` meets its contract. Assumes nothing.
 use mathlib.Core.Path.{_≡_, ap, _∙_}
-use Rattle.credits.proofs.Paid.{Rounds, rounds-none, rounds-next, rounds-done}
-use Rattle.units.specs.Units.{centsOf}
-use borrow.Author.Needs.{needs, sfits-of}
-use mir.Facts.{toZ-ofZ}
-use mir.Syntax.{w64}
-use lib.ListN.{length, length-set}
+use Prim.Native.Nat.{_-_, _≤_}
 use native.Mathlib.Omega.{arith}
-use Prim.Native.Nat.{ℕ, _-_, _≤_}
+use lib.ListN.{length, length-set}
+use mir.Syntax.{w64}
+use mir.Facts.{toZ-ofZ}
+use borrow.Author.Needs.{needs, sfits-of}
+use Rattle.units.specs.Units.{centsOf}
+use Rattle.credits.proofs.Paid.{Rounds, rounds-none, rounds-next, rounds-done}
 use Rattle.credits.proofs.round.Statement.{statement}
 use Rattle.credits.proofs.round.Tie as tie
-use Rattle.credits.proofs.round.Reads as reads
-use Rattle.credits.proofs.round.Lts as lts
-use Rattle.units.proofs.to_cents.Reads as to-cents-reads
 
 abbrev Inv-loop : tie.InvT-loop
 Inv-loop list₀ i₀ list i = (i ≤ length list₀) × (length list ≡ length list₀) × Rounds list₀ i list
@@ -19,49 +17,38 @@ Inv-loop list₀ i₀ list i = (i ≤ length list₀) × (length list ≡ length
 abbrev μ-loop : tie.MeasureT-loop
 μ-loop list₀ i₀ list i = length list₀ - i
 
--- src/lib.rt:19:5
 loop-holds : tie.Need-loop-holds Inv-loop μ-loop
 loop-holds c = (search needs, search needs, rounds-none (c .args .list .now))
 
--- src/lib.rt:20:46
 mul-t4 : tie.Need-mul-t4 Inv-loop μ-loop
 mul-t4 c = search needs
 
--- src/lib.rt:20:46
 slice-copy-out-t8 : tie.Need-slice-copy-out-t8 Inv-loop μ-loop
 slice-copy-out-t8 c = search needs
 
--- src/lib.rt:20:21
 to-cents-requires : tie.Need-to-cents-requires Inv-loop μ-loop
 to-cents-requires c κs = search needs
 
--- src/lib.rt:21:9
 mul-cents : tie.Need-mul-cents Inv-loop μ-loop
 mul-cents c = search needs
 
--- src/lib.rt:21:9
 slice-set-from-cents : tie.Need-slice-set-from-cents Inv-loop μ-loop
 slice-set-from-cents c = search needs
 
--- src/lib.rt:22:9
 add-i : tie.Need-add-i Inv-loop μ-loop
 add-i c = search needs
 
--- src/lib.rt:19:5
 loop-less : tie.Need-loop-less Inv-loop μ-loop
 loop-less c = search needs
 
--- src/lib.rt:19:5
 loop-again : tie.Need-loop-again Inv-loop μ-loop
 loop-again c = let l = c .before .before .before .before in
     let read = sfits-of (c .before .before .t8 .given) in
     (search needs, simp length-set (l .loop .inv .1), rounds-next (l .before .args .list .now) (l .loop .list) (l .loop .i) (l .loop .inv .2) _ (search needs) read (toZ-ofZ {w = w64} (sfits-of (c .struct-told .given .0 .1)) ∙ c .before .to-cents .ensures ∙ ap centsOf (toZ-ofZ {w = w64} read)))
 
--- src/lib.rt:15:1
 same-length : tie.Need-same-length Inv-loop μ-loop
 same-length c = search needs
 
--- src/lib.rt:15:1
 returns : tie.Need-returns Inv-loop μ-loop
 returns c = let l = c .before in
     rounds-done (l .before .args .list .now) (l .loop .list) (l .loop .i) (l .loop .inv .2) (omega arith) (l .loop .inv .1)

@@ -1,21 +1,21 @@
-use Rattle.ints.proofs.Sums.{sumTo-zero, sumTo-next, sumTo-abs}
-use Rattle.ints.proofs.Sizes.{w-fits′, w-read}
-use Rattle.ints.specs.Table.{_at_}
-use Rattle.ints.specs.Sum.{sumTo}
-use borrow.Author.Needs.{needs}
-use mir.Facts.{toZ-ofZ}
-use mir.Val.{SFits, toZ, ofZ}
-use mir.Syntax.{w64}
-use lib.ListN.{length}
-use lib.IntN.{ℤ, _+ℤ_}
-use mathlib.Core.List.{List}
-use native.Mathlib.Omega.{arith}
-use Prim.Native.Nat.{ℕ, _+_, _-_, _*_, _≤_}
+-- `credits::sum` meets its contract. Assumes nothing.
 use mathlib.Core.Path.{_≡_, sym, ap, ap₂, _∙_, subst}
+use mathlib.Core.List.{List}
+use Prim.Native.Nat.{ℕ, _+_, _-_, _*_, _≤_}
+use native.Mathlib.Omega.{arith}
+use lib.IntN.{ℤ, _+ℤ_}
+use lib.ListN.{length}
+use mir.Syntax.{w64}
+use mir.Val.{SFits, toZ, ofZ}
+use mir.Facts.{toZ-ofZ}
+use borrow.Author.Needs.{needs}
+use Rattle.ints.specs.Sum.{sumTo}
+use Rattle.ints.specs.Table.{_at_}
+use Rattle.ints.proofs.Sizes.{w-fits′, w-read}
+use Rattle.ints.proofs.Sums.{sumTo-zero, sumTo-next, sumTo-abs}
+use Rattle.credits.specs.Facts.{mostCents}
 use Rattle.credits.proofs.sum.Statement.{statement}
 use Rattle.credits.proofs.sum.Tie as tie
-use Rattle.credits.proofs.sum.Reads as reads
-use Rattle.credits.proofs.sum.Lts as lts
 
 abbrev Inv-loop : tie.InvT-loop
 Inv-loop list total₀ i₀ total i = (i ≤ length list) × (toZ w64 total ≡ sumTo (λ (k : ℕ). list at k) i)
@@ -37,37 +37,29 @@ module _ (c : tie.After-total Inv-loop μ-loop) where
   more : SFits w64 (toZ w64 (l .loop .total) +ℤ toZ w64 (ofZ w64 (list at l .loop .i)))
   more =
       subst (SFits w64) (sym next)
-      (w-fits′ {k = (l .loop .i + 1) * 76861433640456} (record { within = sumTo-abs (λ k. list at k) 76861433640456 (l .loop .i + 1) (λ k _. l .before .pre .0 .each k .within) }) (omega (arith, l .before .pre .1)))
+      (w-fits′ {k = (l .loop .i + 1) * mostCents} (record { within = sumTo-abs (λ k. list at k) mostCents (l .loop .i + 1) (λ k _. l .before .pre .0 .each k .within) }) (omega (arith, l .before .pre .1)))
 
--- src/lib.rt:33:5
 loop-holds : tie.Need-loop-holds Inv-loop μ-loop
 loop-holds c = (search needs, sym (sumTo-zero (λ k. c .args .list .now at k)))
 
--- src/lib.rt:34:18
 mul-total : tie.Need-mul-total Inv-loop μ-loop
 mul-total c = search needs
 
--- src/lib.rt:34:18
 shared-slice-copy-out-total : tie.Need-shared-slice-copy-out-total Inv-loop μ-loop
 shared-slice-copy-out-total c = search needs
 
--- src/lib.rt:34:9
 add-total : tie.Need-add-total Inv-loop μ-loop
 add-total c = more c
 
--- src/lib.rt:35:9
 add-i : tie.Need-add-i Inv-loop μ-loop
 add-i c = search needs
 
--- src/lib.rt:33:5
 loop-less : tie.Need-loop-less Inv-loop μ-loop
 loop-less c = search needs
 
--- src/lib.rt:33:5
 loop-again : tie.Need-loop-again Inv-loop μ-loop
 loop-again c = (search needs, toZ-ofZ (more c) ∙ next c)
 
--- src/lib.rt:27:1
 returns : tie.Need-returns Inv-loop μ-loop
 returns c = let l = c .before in
     l .loop .inv .1 ∙ ap (sumTo (λ k. l .before .args .list .now at k)) (omega arith)

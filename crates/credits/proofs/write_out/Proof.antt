@@ -1,23 +1,22 @@
-use Rattle.credits.proofs.Paid.{copied, copied-all}
-use Rattle.credits.specs.Paid.{netAt, netted}
-use Rattle.ints.proofs.Tables.{tab-none, tab-store, tab-done}
-use Rattle.ints.proofs.Sizes.{w-read}
-use Rattle.ints.specs.Table.{_at_, tab}
-use borrow.Author.Needs.{needs, sfits-of}
-use mir.Val.{toZ, ofZ}
-use Rattle.ints.specs.Number.{Within}
-use mir.Facts.{toZ-ofZ}
-use mir.Syntax.{w64}
-use lib.ListN.{length, take, length-set}
-use lib.IntN.{ℤ, _+ℤ_, _-ℤ_}
-use native.Mathlib.Omega.{arith}
-use Prim.Native.Nat.{ℕ, _-_, _≤_}
+-- `credits::write_out` meets its contract. Assumes nothing.
 use mathlib.Core.Path.{_≡_, refl, sym, ap, _∙_, subst}
+use Prim.Native.Nat.{_-_, _≤_}
+use native.Mathlib.Omega.{arith}
+use lib.IntN.{ℤ}
+use lib.ListN.{length, take, length-set}
+use mir.Syntax.{w64}
+use mir.Val.{toZ, ofZ}
+use mir.Facts.{toZ-ofZ}
+use borrow.Author.Needs.{needs, sfits-of}
+use Rattle.ints.specs.Number.{Within}
+use Rattle.ints.specs.Table.{tab}
+use Rattle.ints.proofs.Sizes.{w-read}
+use Rattle.ints.proofs.Tables.{tab-none, tab-store, tab-done}
+use Rattle.credits.specs.Facts.{mostCents}
+use Rattle.credits.specs.Paid.{netAt, netted}
+use Rattle.credits.proofs.Paid.{copied, copied-all}
 use Rattle.credits.proofs.write_out.Statement.{statement}
 use Rattle.credits.proofs.write_out.Tie as tie
-use Rattle.credits.proofs.write_out.Reads as reads
-use Rattle.credits.proofs.write_out.Lts as lts
-use Rattle.credits.proofs.net_of.Reads as net-of-reads
 
 abbrev Inv-loop : tie.InvT-loop
 Inv-loop charged lost credit congestion₀ loss₀ net₀ i₀ congestion loss net i = (i ≤ length charged) × (length congestion ≡ length charged) × (length loss ≡ length charged) × (length net ≡ length charged)
@@ -27,8 +26,8 @@ abbrev μ-loop : tie.MeasureT-loop
 μ-loop charged lost credit congestion₀ loss₀ net₀ i₀ congestion loss net i = length charged - i
 
 -- what is read stays as it is, and within its bound
-read-in : {x : ℤ} → Within x 76861433640456 → Within (toZ w64 (ofZ w64 x)) 76861433640456
-read-in w = subst (λ (z : ℤ). Within z 76861433640456) (sym (w-read w tt)) w
+read-in : {x : ℤ} → Within x mostCents → Within (toZ w64 (ofZ w64 x)) mostCents
+read-in w = subst (λ (z : ℤ). Within z mostCents) (sym (w-read w tt)) w
 
 -- the net is that of the definition
 net-is : (c : tie.After-struct-told Inv-loop μ-loop) → let l = c .before .before .before .before .before .before in let a = l .before .args in toZ w64 (ofZ w64 (c .before .net-of .result .0)) ≡ netAt (a .charged .now) (a .lost .now) (a .credit .now) (l .loop .i)
@@ -37,89 +36,68 @@ net-is c = let l = c .before .before .before .before .before .before in
     let i = l .loop .i in
     toZ-ofZ {w = w64} (sfits-of (c .struct-told .given .0 .1)) ∙ c .before .net-of .ensures ∙ simp (w-read (p .0 .each i) tt, w-read (p .1 .each i) tt, w-read (p .2 .each i) tt)
 
--- src/lib.rt:57:5
 loop-holds : tie.Need-loop-holds Inv-loop μ-loop
 loop-holds c = (search needs, search needs, search needs, search needs, refl, refl, tab-none _)
 
--- src/lib.rt:58:34
 mul-congestion : tie.Need-mul-congestion Inv-loop μ-loop
 mul-congestion c = search needs
 
--- src/lib.rt:58:34
 shared-slice-copy-out-congestion : tie.Need-shared-slice-copy-out-congestion Inv-loop μ-loop
 shared-slice-copy-out-congestion c = search needs
 
--- src/lib.rt:58:53
 mul-t15 : tie.Need-mul-t15 Inv-loop μ-loop
 mul-t15 c = search needs
 
--- src/lib.rt:58:53
 shared-slice-copy-out-t17 : tie.Need-shared-slice-copy-out-t17 Inv-loop μ-loop
 shared-slice-copy-out-t17 c = search needs
 
--- src/lib.rt:58:69
 mul-loss : tie.Need-mul-loss Inv-loop μ-loop
 mul-loss c = search needs
 
--- src/lib.rt:58:69
 shared-slice-copy-out-loss : tie.Need-shared-slice-copy-out-loss Inv-loop μ-loop
 shared-slice-copy-out-loss c = search needs
 
--- src/lib.rt:58:21
 net-of-requires : tie.Need-net-of-requires Inv-loop μ-loop
 net-of-requires c κs = let l = c .before .before .before .before in
     let p = l .before .pre .1 in
     (read-in (p .0 .each (l .loop .i)), read-in (p .1 .each (l .loop .i)), read-in (p .2 .each (l .loop .i)))
 
--- src/lib.rt:59:25
 mul-congestion-2 : tie.Need-mul-congestion-2 Inv-loop μ-loop
 mul-congestion-2 c = search needs
 
--- src/lib.rt:59:25
 shared-slice-copy-out-congestion-2 : tie.Need-shared-slice-copy-out-congestion-2 Inv-loop μ-loop
 shared-slice-copy-out-congestion-2 c = search needs
 
--- src/lib.rt:59:9
 mul-t15-2 : tie.Need-mul-t15-2 Inv-loop μ-loop
 mul-t15-2 c = search needs
 
--- src/lib.rt:59:9
 slice-set-from-congestion : tie.Need-slice-set-from-congestion Inv-loop μ-loop
 slice-set-from-congestion c = search needs
 
--- src/lib.rt:60:19
 mul-loss-2 : tie.Need-mul-loss-2 Inv-loop μ-loop
 mul-loss-2 c = search needs
 
--- src/lib.rt:60:19
 shared-slice-copy-out-loss-2 : tie.Need-shared-slice-copy-out-loss-2 Inv-loop μ-loop
 shared-slice-copy-out-loss-2 c = search needs
 
--- src/lib.rt:60:9
 mul-t15-3 : tie.Need-mul-t15-3 Inv-loop μ-loop
 mul-t15-3 c = search needs
 
--- src/lib.rt:60:9
 slice-set-from-loss : tie.Need-slice-set-from-loss Inv-loop μ-loop
 slice-set-from-loss c = search needs
 
--- src/lib.rt:61:9
 mul-cents : tie.Need-mul-cents Inv-loop μ-loop
 mul-cents c = search needs
 
--- src/lib.rt:61:9
 slice-set-from-cents : tie.Need-slice-set-from-cents Inv-loop μ-loop
 slice-set-from-cents c = search needs
 
--- src/lib.rt:62:9
 add-i : tie.Need-add-i Inv-loop μ-loop
 add-i c = search needs
 
--- src/lib.rt:57:5
 loop-less : tie.Need-loop-less Inv-loop μ-loop
 loop-less c = search needs
 
--- src/lib.rt:57:5
 loop-again : tie.Need-loop-again Inv-loop μ-loop
 loop-again c = let n = c .before .before in
     let l = n .before .before .before .before .before .before in
@@ -134,27 +112,26 @@ loop-again c = let n = c .before .before in
       tab-store _ (l .loop .net) (l .loop .i) _ (search needs) (net-is n) (v .6),
     )
 
--- src/lib.rt:49:1
 same-length : tie.Need-same-length Inv-loop μ-loop
 same-length c = search needs
 
--- src/lib.rt:49:1
 same-length-2 : tie.Need-same-length-2 Inv-loop μ-loop
 same-length-2 c = search needs
 
--- src/lib.rt:49:1
 same-length-3 : tie.Need-same-length-3 Inv-loop μ-loop
 same-length-3 c = search needs
 
--- src/lib.rt:49:1
 returns : tie.Need-returns Inv-loop μ-loop
 unfolding netted
 returns c = let l = c .before in
     let a = l .before .args in
-    let v = l .loop .inv in
-    (copied-all (a .charged .now) (l .loop .congestion) (l .loop .i) (omega arith) (omega arith) (v .4),
-    (copied-all (a .lost .now) (l .loop .loss) (l .loop .i) (omega arith) (omega arith) (v .5),
-    tab-done (netAt (a .charged .now) (a .lost .now) (a .credit .now)) (l .loop .net) (l .loop .i) (omega arith) (v .6) ∙ ap (tab (netAt (a .charged .now) (a .lost .now) (a .credit .now))) (v .3)))
+    let v = l .loop .inv in (
+      copied-all (a .charged .now) (l .loop .congestion) (l .loop .i) (omega arith) (omega arith) (v .4),
+      (
+        copied-all (a .lost .now) (l .loop .loss) (l .loop .i) (omega arith) (omega arith) (v .5),
+        tab-done (netAt (a .charged .now) (a .lost .now) (a .credit .now)) (l .loop .net) (l .loop .i) (omega arith) (v .6) ∙ ap (tab (netAt (a .charged .now) (a .lost .now) (a .credit .now))) (v .3),
+      ),
+    )
 
 pub write-out-spec : {M : Type 1} → statement M
 write-out-spec =
