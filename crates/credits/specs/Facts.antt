@@ -18,9 +18,10 @@ pub record Lists (participants : ℕ) (charged lost congestion loss credit net :
   pub credit-each : length credit ≡ participants
   pub net-each : length net ≡ participants
 
--- the most cents that twelfths of 64 bits are rounded to: 64 times as many fit 64 bits too
+-- the most cents that twelfths of 64 bits are rounded to; 64 times as many fit 64 bits too
 abbrev pub mostCents : ℕ
 mostCents = 76861433640456
 
+-- a list of such cents
 pub record InCents (list : List ℤ) : Type 0 where
   pub each : (p : ℕ) → Within (list at p) mostCents

@@ -1,9 +1,8 @@
 // From exact charges in twelfths to billed cents (document 01, "Charges" and "Surplus and credits").
 ghost use mathlib.Core.Path.{_≡_};
-ghost use mathlib.Core.List.{List};
 ghost use Prim.Native.Nat.{_≤_};
 ghost use lib.ListN.{length};
-ghost use lib.IntN.{ℤ, _+ℤ_, _-ℤ_};
+ghost use lib.IntN.{_+ℤ_, _-ℤ_};
 ghost use Rattle.ints.specs.Number.{Within};
 ghost use Rattle.ints.specs.Refusal.{lent};
 ghost use Rattle.split.specs.Split.{parts};
