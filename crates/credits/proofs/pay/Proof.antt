@@ -142,8 +142,7 @@ returns-2 c = let a = c .before .before .before in (
 
 write-out-requires : tie.Need-write-out-requires
 write-out-requires c κs = let e = c .before .before .before .before .before .before in
-    let a = e .before .before .before in
-    (
+    let a = e .before .before .before in (
       record {
         some = omega (arith, charged-each a);
         few = omega (arith, charged-each a);

@@ -4,8 +4,10 @@ use Prim.Native.Nat.{_-_, _≤_}
 use native.Mathlib.Omega.{arith}
 use lib.ListN.{length, length-set}
 use mir.Syntax.{w64}
+use mir.Val.{SFits}
 use mir.Facts.{toZ-ofZ}
 use borrow.Author.Needs.{needs, sfits-of}
+use Rattle.ints.specs.Table.{_at_}
 use Rattle.units.specs.Units.{centsOf}
 use Rattle.credits.proofs.Paid.{Rounds, rounds-none, rounds-next, rounds-done}
 use Rattle.credits.proofs.round.Statement.{statement}
@@ -43,7 +45,7 @@ loop-less c = search needs
 
 loop-again : tie.Need-loop-again Inv-loop μ-loop
 loop-again c = let l = c .before .before .before .before in
-    let read = sfits-of (c .before .before .t8 .given) in
+    let read : SFits w64 (l .loop .list at l .loop .i) = sfits-of (c .before .before .t8 .given) in
     (search needs, simp length-set (l .loop .inv .1), rounds-next (l .before .args .list .now) (l .loop .list) (l .loop .i) (l .loop .inv .2) _ (search needs) read (toZ-ofZ {w = w64} (sfits-of (c .struct-told .given .0 .1)) ∙ c .before .to-cents .ensures ∙ ap centsOf (toZ-ofZ {w = w64} read)))
 
 same-length : tie.Need-same-length Inv-loop μ-loop
