@@ -1,0 +1,3 @@
+pub mod Paid
+pub mod Theorems
+pub mod Unique

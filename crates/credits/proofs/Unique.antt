@@ -1,0 +1,26 @@
+-- The contract of `pay` allows one answer and one content of each of the six lists that are lent to be written: two that it allows at the same arguments are equal. Assumes nothing.
+use mathlib.Core.Path.{_≡_, subst}
+use Prim.Native.Nat.{ℕ}
+use contract.Lifetimes.{Lfts}
+use Rattle.ints.proofs.Unique.{unique}
+use Rattle.credits.proofs.pay.Reads as pay
+
+-- `pay.Post` is the contract's `ensures`, over lifetimes, arguments, answer and what the lent lists hold at exit
+pub pay-unique : (κs : Lfts 7) (a : _) (r s : ℕ) (e f : _) → pay.Post κs a r e → pay.Post κs a s f
+    → (r ≡ s)
+    × (e .0 .now ≡ f .0 .now)
+    × (e .1 .0 .now ≡ f .1 .0 .now)
+    × (e .1 .1 .1 .0 .now ≡ f .1 .1 .1 .0 .now)
+    × (e .1 .1 .1 .1 .0 .now ≡ f .1 .1 .1 .1 .0 .now)
+    × (e .1 .1 .1 .1 .1 .0 .now ≡ f .1 .1 .1 .1 .1 .0 .now)
+    × (e .1 .1 .1 .1 .1 .1 .0 .now ≡ f .1 .1 .1 .1 .1 .1 .0 .now)
+pay-unique κs a r s e f p q =
+    let t : pay.Post κs a r f = subst (λ (n : ℕ). pay.Post κs a n f) (unique (q .0) (p .0)) q in (
+      unique (p .0) (q .0),
+      unique (p .1 .0) (t .1 .0),
+      unique (p .1 .1 .0) (t .1 .1 .0),
+      unique (p .1 .1 .1 .0) (t .1 .1 .1 .0),
+      unique (p .1 .1 .1 .1 .0) (t .1 .1 .1 .1 .0),
+      unique (p .1 .1 .1 .1 .1 .0) (t .1 .1 .1 .1 .1 .0),
+      unique (p .1 .1 .1 .1 .1 .1) (t .1 .1 .1 .1 .1 .1),
+    )
