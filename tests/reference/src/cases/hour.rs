@@ -76,6 +76,7 @@ pub fn draw(turn: usize, random: &mut Random) -> (Vec<u8>, [usize; 4]) {
         6 => Case::new(day_ahead_only(round, random)),
         7 => Case::new(negative_surplus(random)),
         8 => Case::new(ties(random)),
+        9 if round % 10 == 9 => Case::new(without_rows(round / 10, random)),
         9 => Case::new(single_participant(random)),
         10 => Case::new(mirrored(4, 4, 20, 6, random)),
         11 => Case::new(halves(random)),
@@ -409,6 +410,14 @@ fn single_participant(random: &mut Random) -> File {
     let sizes = Sizes::any(random);
     let (locations, rows) = (1 + random.index(6), 1 + random.index(20));
     noise(1, locations, rows, random.index(6), &sizes, random)
+}
+
+/// No row, and with the fewest locations the shortest file there is.
+fn without_rows(round: usize, random: &mut Random) -> File {
+    let sizes = Sizes::any(random);
+    let (participants, locations) = [(1, 1), (64, 1), (1, 64), (64, 64)][round % 4];
+    let transactions = [0, 1, 256][round / 4 % 3];
+    noise(participants, locations, 0, transactions, &sizes, random)
 }
 
 /// Prices and kW at their limits, and to every row or transaction but a few its
@@ -1019,6 +1028,11 @@ mod tests {
                 has_price(MOST_PRICE) && has_price(-MOST_PRICE),
             ),
             ("the longest file", file.len() == 18_821),
+            ("the shortest file", file.len() == 83),
+            (
+                "transactions alone",
+                hour.rows.is_empty() && congestion.iter().any(|&charge| charge != 0),
+            ),
             ("the largest surplus", surplus == 1_000_000_000),
             ("the least surplus", surplus == -1_000_000_000),
             ("the largest share", shares.contains(&4_000_000_000)),
@@ -1068,8 +1082,8 @@ mod tests {
                 *seen.entry(shape).or_insert(0) += 1;
             }
         }
-        // Twelve of an hour, five lengths of each list, and the empty file.
-        assert_eq!(seen.len(), 12 + 5 * 4 + 1, "{seen:#?}");
+        // Fourteen of an hour, five lengths of each list, and the empty file.
+        assert_eq!(seen.len(), 14 + 5 * 4 + 1, "{seen:#?}");
     }
 
     #[test]
