@@ -31,8 +31,9 @@
  *
  * STACK
  *
- * Nothing is allocated. A call takes the stack that stands with it, measured
- * on the archive for x86-64, and what the C library's memset and memcpy take.
+ * Nothing is allocated. A call takes at most the stack that stands with it, in
+ * KB of 1,024 bytes, its arguments and the C library's memset and memcpy
+ * included; this is measured on the archive for x86-64.
  */
 #ifndef WUNZELIHLE_H
 #define WUNZELIHLE_H
@@ -94,7 +95,7 @@ extern "C" {
  *   WZ_RANGE      a share is outside its range
  *   WZ_NO_SHARES  the shares total 0 and the amount isn't 0
  *
- * Stack: 2.1 KB.
+ * Stack: at most 3 KB.
  */
 uint32_t wz_split(int64_t amount,
                   const uint8_t *shares, size_t shares_len,
@@ -161,7 +162,7 @@ uint32_t wz_split(int64_t amount,
  *                    up to 0 and its loads do
  *   WZ_CONTRACTS     contracts have more kW at a bus than the distributor
  *
- * Stack: 85 KB.
+ * Stack: at most 84 KB.
  */
 uint32_t wz_assign_load(int64_t metered, int64_t distributor,
                         const uint8_t *loads, size_t loads_len,

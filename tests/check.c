@@ -29,9 +29,9 @@ static int call(char **field, const struct list *list)
            answers("probe_rows", length, (int64_t)list[1].len);
 }
 
-int main(void)
+int main(int argc, char **argv)
 {
     static const struct test check = {3, 2, read_lists, call};
 
-    return run_cases(&check);
+    return run_cases(&check, argc, argv);
 }

@@ -1,3 +1,5 @@
+#define _XOPEN_SOURCE 600 /* for ucontext.h */
+
 #include "harness.h"
 
 #include <errno.h>
@@ -5,11 +7,14 @@
 #include <stdio.h>
 #include <stdlib.h>
 #include <string.h>
+#include <ucontext.h>
 
 #define PASSES 3
 #define GUARD 64
 #define LONGEST_RUN 1000000
 #define MOST_PRINTED 10
+#define STACK_WORDS (1 << 17)
+#define PAINT UINT64_C(0x9e3779b97f4a7c15)
 
 static size_t line_number, cases, wrong;
 static const char *line_text; /* of the case at hand, NULL once it is printed */
@@ -173,6 +178,55 @@ static int note(void)
     return 1;
 }
 
+/* Of the stack that calls run on, and of the call that runs there. */
+static int measured;
+static uint64_t stack[STACK_WORDS];
+static ucontext_t outside, inside;
+static uint64_t (*entered)(const struct given *);
+static const struct given *entered_with;
+static uint64_t answered;
+
+static void enter_inside(void)
+{
+    answered = entered(entered_with);
+}
+
+uint64_t make_call(uint64_t (*enter)(const struct given *), const struct given *given)
+{
+    if (!measured)
+        return enter(given);
+    entered = enter;
+    entered_with = given;
+    if (getcontext(&inside) != 0)
+        leave(strerror(errno));
+    inside.uc_stack.ss_sp = stack;
+    inside.uc_stack.ss_size = sizeof stack;
+    inside.uc_link = &outside;
+    makecontext(&inside, enter_inside, 0);
+    if (swapcontext(&outside, &inside) != 0)
+        leave(strerror(errno));
+    return answered;
+}
+
+static void paint_stack(void)
+{
+    size_t i;
+
+    measured = 1;
+    for (i = 0; i < STACK_WORDS; i++)
+        stack[i] = PAINT;
+}
+
+/* How many bytes were reached, with the few that the harness takes itself. */
+static size_t depth_of_stack(void)
+{
+    size_t i = 0;
+
+    while (i < STACK_WORDS && stack[i] == PAINT)
+        i++;
+    return sizeof stack - i * sizeof *stack;
+}
+
 int answers(const char *name, uint64_t answer, int64_t number)
 {
     if (answer == (uint64_t)number)
@@ -238,11 +292,16 @@ static void part(char *line, char **field, size_t fields)
     }
 }
 
-int run_cases(const struct test *test)
+int run_cases(const struct test *test, int argc, char **argv)
 {
     char **field = space(NULL, test->fields * sizeof *field);
+    size_t depth = 0, most = 0;
     char *line;
 
+    if (argc > 1) {
+        most = (size_t)number_of(argv[1]);
+        paint_stack();
+    }
     /* What was found is kept where a later call crashes. */
     setvbuf(stdout, NULL, _IOLBF, 0);
     while ((line = next_line())) {
@@ -260,5 +319,9 @@ int run_cases(const struct test *test)
     }
     free(field);
     printf("%zu cases, %zu wrong\n", cases, wrong);
-    return cases == 0 || wrong > 0;
+    if (measured) {
+        depth = depth_of_stack();
+        printf("%zu bytes of stack, %zu at most\n", depth, most);
+    }
+    return cases == 0 || wrong > 0 || depth > most;
 }

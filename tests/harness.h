@@ -35,6 +35,18 @@ int64_t number_of(const char *field);
 struct list input(const char *name, const char *field);
 struct list output(const char *name, const char *before, const char *after);
 
+/* The numbers and the lists that a call is given. */
+struct given {
+    int64_t number[3];
+    const struct list *list;
+};
+
+/*
+ * Gives what `enter` answers, which makes the call and does nothing else. Where
+ * stack is measured it runs on the painted one.
+ */
+uint64_t make_call(uint64_t (*enter)(const struct given *), const struct given *given);
+
 /* Gives 1 where the answer is as the case says, else prints it and gives 0. */
 int answers(const char *name, uint64_t answer, int64_t number);
 
@@ -56,7 +68,13 @@ struct test {
  * each call every list with its guards must hold what the case says. Prints
  * the cases that are wrong (the first ten) and then the count. Gives the exit
  * status: 0 where there are cases, each can be read and none is wrong.
+ *
+ * The program's one word, where it has one, is how many bytes of stack a call
+ * may take. The calls then run on a stack that was painted before the first of
+ * them; what is still painted after the last was never reached. The deepest
+ * call is printed, and the status is 1 where it is deeper than it may be. A
+ * memory checker is better used without that word.
  */
-int run_cases(const struct test *test);
+int run_cases(const struct test *test, int argc, char **argv);
 
 #endif

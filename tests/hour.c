@@ -15,17 +15,24 @@ static void read_lists(char **field, struct list *list)
     list[4] = output("net", field[4], field[9]);
 }
 
-static int call(char **field, const struct list *list)
+static uint64_t enter(const struct given *given)
 {
-    uint32_t answer =
-        wz_settle_hour(LENT(list[0]), LENT(list[1]), LENT(list[2]), LENT(list[3]), LENT(list[4]));
+    const struct list *list = given->list;
 
-    return answers("wz_settle_hour", answer, number_of(field[5]));
+    return wz_settle_hour(LENT(list[0]), LENT(list[1]), LENT(list[2]), LENT(list[3]),
+                          LENT(list[4]));
 }
 
-int main(void)
+static int call(char **field, const struct list *list)
+{
+    struct given given = {{0}, list};
+
+    return answers("wz_settle_hour", make_call(enter, &given), number_of(field[5]));
+}
+
+int main(int argc, char **argv)
 {
     static const struct test hour = {10, 5, read_lists, call};
 
-    return run_cases(&hour);
+    return run_cases(&hour, argc, argv);
 }

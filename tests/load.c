@@ -17,19 +17,25 @@ static void read_lists(char **field, struct list *list)
     list[6] = output("out", field[9], field[11]);
 }
 
-static int call(char **field, const struct list *list)
+static uint64_t enter(const struct given *given)
 {
-    uint32_t answer =
-        wz_assign_load(number_of(field[0]), number_of(field[1]), LENT(list[0]), LENT(list[1]),
-                       LENT(list[2]), number_of(field[5]), LENT(list[3]), LENT(list[4]),
-                       LENT(list[5]), LENT(list[6]));
+    const int64_t *number = given->number;
+    const struct list *list = given->list;
 
-    return answers("wz_assign_load", answer, number_of(field[10]));
+    return wz_assign_load(number[0], number[1], LENT(list[0]), LENT(list[1]), LENT(list[2]),
+                          number[2], LENT(list[3]), LENT(list[4]), LENT(list[5]), LENT(list[6]));
 }
 
-int main(void)
+static int call(char **field, const struct list *list)
+{
+    struct given given = {{number_of(field[0]), number_of(field[1]), number_of(field[5])}, list};
+
+    return answers("wz_assign_load", make_call(enter, &given), number_of(field[10]));
+}
+
+int main(int argc, char **argv)
 {
     static const struct test load = {12, 7, read_lists, call};
 
-    return run_cases(&load);
+    return run_cases(&load, argc, argv);
 }

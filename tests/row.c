@@ -48,9 +48,9 @@ static int call(char **field, const struct list *list)
     return answers("probe_row", answer, number_of(field[3]));
 }
 
-int main(void)
+int main(int argc, char **argv)
 {
     static const struct test row = {5, 2, read_lists, call};
 
-    return run_cases(&row);
+    return run_cases(&row, argc, argv);
 }

@@ -11,16 +11,21 @@ static void read_lists(char **field, struct list *list)
     list[1] = output("parts", field[2], field[4]);
 }
 
-static int call(char **field, const struct list *list)
+static uint64_t enter(const struct given *given)
 {
-    uint32_t answer = wz_split(number_of(field[0]), LENT(list[0]), LENT(list[1]));
-
-    return answers("wz_split", answer, number_of(field[3]));
+    return wz_split(given->number[0], LENT(given->list[0]), LENT(given->list[1]));
 }
 
-int main(void)
+static int call(char **field, const struct list *list)
+{
+    struct given given = {{number_of(field[0])}, list};
+
+    return answers("wz_split", make_call(enter, &given), number_of(field[3]));
+}
+
+int main(int argc, char **argv)
 {
     static const struct test split = {5, 2, read_lists, call};
 
-    return run_cases(&split);
+    return run_cases(&split, argc, argv);
 }

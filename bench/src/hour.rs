@@ -111,36 +111,37 @@ pub fn compare() {
     timing::compare("hour: 2 x 2, 3 rows (document 01)", &[exercise]);
 }
 
-/// What a kW costs, by stage and location, in congestion and in loss. It stays
+const FEW: usize = 8;
+
+/// What a kW costs in congestion and in loss, by stage and location. It stays
 /// below 2^31, as a price stays below 2^23.
-struct Weights {
-    lists: [[i32; STAGES * 64]; 2],
+struct Weights<'a> {
+    pairs: &'a mut [[i32; 2]],
     locations: usize,
 }
 
-impl Weights {
+impl Weights<'_> {
     /// In real time the weight is the price. A day-ahead kW also stands, with
     /// the other sign, in each interval.
     fn read(&mut self, file: &File) -> Result<(), u32> {
         let locations = file.locations;
-        let [congestion, loss] = &mut self.lists;
-        let half = STAGES * locations;
+        let pairs = &mut *self.pairs;
+        let half = pairs.len();
         file.prices(|i, price| {
             if i < half {
-                congestion[i] = price;
+                pairs[i][0] = price;
             } else {
-                loss[i - half] = price;
+                pairs[i - half][1] = price;
             }
         })?;
-        for list in [congestion, loss] {
-            let (day_ahead, real_time) = list[..half].split_at_mut(locations);
-            for weight in day_ahead.iter_mut() {
-                *weight *= 12;
-            }
-            for interval in real_time.chunks_exact(locations) {
-                for (weight, price) in day_ahead.iter_mut().zip(interval) {
-                    *weight -= price;
-                }
+        let (day_ahead, real_time) = pairs.split_at_mut(locations);
+        for weight in day_ahead.iter_mut() {
+            *weight = [12 * weight[0], 12 * weight[1]];
+        }
+        for interval in real_time.chunks_exact(locations) {
+            for (weight, price) in day_ahead.iter_mut().zip(interval) {
+                weight[0] -= price[0];
+                weight[1] -= price[1];
             }
         }
         Ok(())
@@ -148,8 +149,7 @@ impl Weights {
 
     fn at(&self, real_time: bool, interval: usize, location: usize) -> [i64; 2] {
         let stage = if real_time { 1 + interval } else { 0 };
-        let i = stage * self.locations + location;
-        [self.lists[0][i].into(), self.lists[1][i].into()]
+        self.pairs[stage * self.locations + location].map(i64::from)
     }
 }
 
@@ -161,57 +161,65 @@ fn settle(file: &[u8], lists: [&mut [u8]; 4]) -> Result<(), u32> {
         return Err(1);
     }
 
+    // A few locations don't pay for clearing the room of 64.
+    let (mut few, mut all);
+    let room = if file.locations <= FEW {
+        few = [[0; 2]; STAGES * FEW];
+        &mut few[..]
+    } else {
+        all = [[0; 2]; STAGES * 64];
+        &mut all[..]
+    };
     let mut weights = Weights {
-        lists: [[0; STAGES * 64]; 2],
+        pairs: &mut room[..STAGES * file.locations],
         locations: file.locations,
     };
     weights.read(&file)?;
-    let mut charges = [[0; 2]; PARTIES];
-    let mut shares = [0; PARTIES];
+    // Congestion and loss in twelfths, and the share.
+    let mut accounts = [[0; 3]; PARTIES];
     file.rows(|row| {
         let [congestion, loss] = weights.at(row.real_time, row.interval, row.location);
-        let kw = if row.kind % 2 == 0 { row.kw } else { -row.kw };
-        let charge = &mut charges[row.participant];
-        charge[0] += kw * congestion;
-        charge[1] += kw * loss;
-        let shared = row.real_time && row.kind % 2 == 0;
-        shares[row.participant] += if shared { row.kw as u64 } else { 0 };
+        let withdraws = row.kind % 2 == 0;
+        let kw = if withdraws { row.kw } else { -row.kw };
+        let account = &mut accounts[row.participant];
+        account[0] += kw * congestion;
+        account[1] += kw * loss;
+        account[2] += if row.real_time & withdraws { kw } else { 0 };
     })?;
     file.transactions(|row| {
         let source = weights.at(row.real_time, row.interval, row.location);
         let sink = weights.at(row.real_time, row.interval, row.sink);
-        let charge = &mut charges[row.participant];
-        charge[0] += row.kw * (sink[0] - source[0]);
-        charge[1] += row.kw * (sink[1] - source[1]);
+        let account = &mut accounts[row.participant];
+        account[0] += row.kw * (sink[0] - source[0]);
+        account[1] += row.kw * (sink[1] - source[1]);
     })?;
 
-    let mut congestion = [0; PARTIES];
-    let mut loss = [0; PARTIES];
-    for (i, charge) in charges[..participants].iter().enumerate() {
-        congestion[i] = cents(charge[0]);
-        loss[i] = cents(charge[1]);
+    let accounts = &mut accounts[..participants];
+    for account in accounts.iter_mut() {
+        account[0] = cents(account[0]);
+        account[1] = cents(account[1]);
     }
-    let surplus: i64 = loss[..participants].iter().sum();
-    let shares = &shares[..participants];
-    let total: u64 = shares.iter().sum();
-    if surplus.abs() > 1_000_000_000 || shares.iter().any(|&share| share > 4_000_000_000) {
+    let surplus: i64 = accounts.iter().map(|account| account[1]).sum();
+    let total: i64 = accounts.iter().map(|account| account[2]).sum();
+    if surplus.abs() > 1_000_000_000 || accounts.iter().any(|account| account[2] > 4_000_000_000) {
         return Err(10);
     }
     let mut credit = [0; PARTIES];
     if total > 0 {
         let (size, sign) = (surplus.unsigned_abs(), surplus.signum());
-        split(size, shares.iter().copied(), total, |party, units, _| {
+        let shares = accounts.iter().map(|account| account[2] as u64);
+        split(size, shares, total as u64, |party, units, _| {
             credit[party] += sign * units;
         });
     } else if surplus != 0 {
         return Err(7);
     }
     let [to_congestion, to_loss, to_credit, to_net] = lists;
-    for i in 0..participants {
-        let net = congestion[i] + loss[i] - credit[i];
+    for (i, account) in accounts.iter().enumerate() {
+        let net = account[0] + account[1] - credit[i];
         let eight = 8 * i..8 * i + 8;
-        to_congestion[eight.clone()].copy_from_slice(&congestion[i].to_le_bytes());
-        to_loss[eight.clone()].copy_from_slice(&loss[i].to_le_bytes());
+        to_congestion[eight.clone()].copy_from_slice(&account[0].to_le_bytes());
+        to_loss[eight.clone()].copy_from_slice(&account[1].to_le_bytes());
         to_credit[eight.clone()].copy_from_slice(&credit[i].to_le_bytes());
         to_net[eight].copy_from_slice(&net.to_le_bytes());
     }

@@ -1,5 +1,5 @@
-//! Times the engine's calls beside plain Rust in one run, and checks that they
-//! agree. Each call is a feature, as an archive may not have it.
+//! Times the engine's calls beside plain Rust and the reference in one run, and
+//! checks that they agree. Each call is a feature, as an archive may not have it.
 
 #[cfg(feature = "check")]
 mod check;

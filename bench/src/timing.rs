@@ -32,37 +32,39 @@ pub fn try_plain<C: Case>() {
     }
 }
 
-/// Prints the times of both over cases of one size.
+/// Prints the times of the three over cases of one size.
 pub fn compare<C: Case>(name: &str, cases: &[C]) {
     let mut random = Random::new(2);
     for case in cases {
         agree(case, C::engine, &mut random);
         agree(case, C::plain, &mut random);
     }
-    let passes = ROUND_NANOSECONDS / (time(C::plain, cases, 1) * cases.len() as f64);
-    let passes = passes.ceil() as usize;
-    let mut engine = Vec::new();
-    let mut plain = Vec::new();
+    let answers: [Answer<C>; 3] = [C::engine, C::plain, C::reference];
+    let passes = answers.map(|answer| {
+        let pass = time(answer, cases, 1) * cases.len() as f64;
+        (ROUND_NANOSECONDS / pass).ceil() as usize
+    });
+    let mut times = [(); 3].map(|_| Vec::new());
     for round in 0..ROUNDS {
         // The one that goes first changes, too.
-        if round % 2 == 0 {
-            engine.push(time(C::engine, cases, passes));
-            plain.push(time(C::plain, cases, passes));
-        } else {
-            plain.push(time(C::plain, cases, passes));
-            engine.push(time(C::engine, cases, passes));
+        for turn in 0..3 {
+            let at = (round + turn) % 3;
+            times[at].push(time(answers[at], cases, passes[at]));
         }
     }
-    let (engine_best, engine_median) = best_and_median(engine);
-    let (plain_best, plain_median) = best_and_median(plain);
+    let [engine, plain, reference] = times.map(best_and_median);
     println!("{name}");
-    println!("  engine      {engine_best:9.1} {engine_median:9.1}");
-    println!("  plain Rust  {plain_best:9.1} {plain_median:9.1}");
-    println!(
-        "  ratio       {:9.2} {:9.2}",
-        engine_best / plain_best,
-        engine_median / plain_median
-    );
+    for (name, times) in [
+        ("engine", engine),
+        ("plain Rust", plain),
+        ("reference", reference),
+    ] {
+        println!("  {name:21}{:11.1}{:11.1}", times.0, times.1);
+    }
+    for (name, other) in [("plain Rust", plain), ("the reference", reference)] {
+        let (best, median) = (engine.0 / other.0, engine.1 / other.1);
+        println!("  engine/{name:14}{best:11.3}{median:11.3}");
+    }
 }
 
 fn agree<C: Case>(case: &C, answer: Answer<C>, random: &mut Random) {

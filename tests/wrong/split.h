@@ -2,6 +2,9 @@
  * A right split in C, for the stand-ins of wz_split to go wrong at one place
  * each.
  */
+#ifndef SPLIT_H
+#define SPLIT_H
+
 #include "wunzelihle.h"
 
 static inline int64_t number_at(const uint8_t *list, size_t i)
@@ -74,3 +77,5 @@ static inline uint32_t right_split(int64_t amount, const uint8_t *shares, size_t
         put_at(parts, i, amount < 0 ? -part[i] : part[i]);
     return WZ_OK;
 }
+
+#endif

@@ -46,6 +46,24 @@ pub fn settle_hour(file: &[u8], lists: &mut [Vec<u8>; 4]) -> u32 {
     }
 }
 
+/// What the statement program of document 01 prints for a file.
+pub fn statement(file: &[u8]) -> String {
+    let participants = file.first().map_or(1, |byte| (byte >> 2) as usize + 1);
+    let lists = match settle(file, &[8 * participants; 4]) {
+        Ok(lists) => lists,
+        Err(number) => return format!("refused {number}\n"),
+    };
+    let line = |name: String, cents: [i64; 4]| {
+        let fields = cents.map(|c| c.to_string()).join(" ");
+        format!("{name} {fields}\n")
+    };
+    let participant = |p: usize| line(p.to_string(), [0, 1, 2, 3].map(|l: usize| lists[l][p]));
+    let mut text: String = (0..participants).map(participant).collect();
+    let totals = [0, 1, 2, 3].map(|l: usize| lists[l].iter().sum());
+    text += &line("total".to_string(), totals);
+    text
+}
+
 /// Each participant's cents: congestion, loss, credit, net.
 fn settle(file: &[u8], lens: &[usize]) -> Result<[Vec<i64>; 4], u32> {
     let header = exercise::read_header(file)?;
@@ -169,8 +187,7 @@ fn narrow(cents: &[i128]) -> Vec<i64> {
 #[cfg(test)]
 mod tests {
     use super::*;
-    use crate::cases::file::{document_01, File};
-    use crate::exercise::{DECREMENT, GENERATION, IMPORT, INCREMENT};
+    use crate::cases::file::document_01;
     use crate::numbers::unhex;
     use crate::vectors;
 
@@ -197,108 +214,6 @@ mod tests {
         assert_eq!(loss, [1000, 390]);
         assert_eq!(credit, [927, 463]);
         assert_eq!(net, [73, -73]);
-    }
-
-    // The participant of document 002, which prints dollars per MWh and MW.
-    // Locations are the buses A to E, and a sixth for the rest of the system.
-    const A: usize = 0;
-    const C: usize = 2;
-    const D: usize = 3;
-    const E: usize = 4;
-    const REST: usize = 5;
-    const MW: i64 = 1_000;
-    const DAY_AHEAD_CONGESTION: [i64; 6] = [4_520, 10_930, 13_240, 19_620, 0, 0];
-    const DAY_AHEAD_LOSS: [i64; 6] = [120, 550, 600, 380, 0, 0];
-    const REAL_TIME_CONGESTION: [i64; 6] = [3_100, 18_290, 18_400, 17_810, 0, 0];
-    const REAL_TIME_LOSS: [i64; 6] = [150, 820, 860, 440, 0, 0];
-
-    /// Its rows of both markets. A purchase injects at its sink, as an import.
-    fn course() -> File {
-        let mut file = File::new(2, 6);
-        file.row(DAY_AHEAD, LOAD, 0, 0, C, 200 * MW);
-        file.row(DAY_AHEAD, DECREMENT, 0, 0, D, 10 * MW);
-        file.row(DAY_AHEAD, IMPORT, 0, 0, C, 100 * MW);
-        file.row(DAY_AHEAD, GENERATION, 0, 0, A, 110 * MW);
-        file.row(DAY_AHEAD, INCREMENT, 0, 0, A, 10 * MW);
-        file.row(DAY_AHEAD, GENERATION, 0, 0, C, 0);
-        for interval in 0..INTERVALS {
-            file.row(REAL_TIME, LOAD, interval, 0, C, 220 * MW);
-            file.row(REAL_TIME, IMPORT, interval, 0, C, 100 * MW);
-            file.row(REAL_TIME, GENERATION, interval, 0, A, 110 * MW);
-            file.row(REAL_TIME, GENERATION, interval, 0, C, 37 * MW);
-        }
-        file
-    }
-
-    fn price_day_ahead(file: &mut File) {
-        file.congestion[..6].copy_from_slice(&DAY_AHEAD_CONGESTION);
-        file.loss[..6].copy_from_slice(&DAY_AHEAD_LOSS);
-    }
-
-    fn price_real_time(file: &mut File) {
-        for interval in 0..INTERVALS {
-            let stretch = 6 * (1 + interval)..6 * (2 + interval);
-            file.congestion[stretch.clone()].copy_from_slice(&REAL_TIME_CONGESTION);
-            file.loss[stretch].copy_from_slice(&REAL_TIME_LOSS);
-        }
-    }
-
-    #[test]
-    fn day_ahead_bills() {
-        let mut file = course();
-        price_day_ahead(&mut file);
-        let (number, [congestion, loss, ..]) = settled(&file.bytes(), 2);
-        assert_eq!(number, 0);
-        assert_eq!(congestion, [97_780, 0]);
-        assert_eq!(loss, [4_940, 0]);
-    }
-
-    /// 002 prints -459.80, from 190.00 for 368.00 - 178.10.
-    #[test]
-    fn balancing_bills() {
-        let mut file = course();
-        price_real_time(&mut file);
-        let (number, [congestion, loss, ..]) = settled(&file.bytes(), 2);
-        assert_eq!(number, 0);
-        assert_eq!(congestion, [-45_990, 0]);
-        assert_eq!(loss, [-1_752, 0]);
-    }
-
-    /// 1,324 and 60 dollars day-ahead, nothing in real time without a deviation.
-    #[test]
-    fn purchase_over_its_path() {
-        let mut file = File::new(2, 6);
-        file.transaction(DAY_AHEAD, 0, 0, E, C, 100 * MW);
-        for interval in 0..INTERVALS {
-            file.transaction(REAL_TIME, interval, 0, E, C, 100 * MW);
-        }
-        file.row(REAL_TIME, LOAD, 0, 1, REST, MW);
-        price_day_ahead(&mut file);
-        price_real_time(&mut file);
-        let (number, [congestion, loss, ..]) = settled(&file.bytes(), 2);
-        assert_eq!(number, 0);
-        assert_eq!(congestion, [132_400, 0]);
-        assert_eq!(loss, [6_000, 0]);
-    }
-
-    /// The surplus of 123.31 over 220 and 650 MW of load. The other participant
-    /// pays what 002 leaves out: 123.31 less 49.40 - 17.52.
-    #[test]
-    fn course_credit() {
-        let mut file = course();
-        price_day_ahead(&mut file);
-        price_real_time(&mut file);
-        file.loss[REST] = 91_430;
-        file.row(DAY_AHEAD, LOAD, 0, 1, REST, MW);
-        for interval in 0..INTERVALS {
-            file.row(REAL_TIME, LOAD, interval, 1, REST, 650 * MW);
-        }
-        let (number, [congestion, loss, credit, net]) = settled(&file.bytes(), 2);
-        assert_eq!(number, 0);
-        assert_eq!(congestion, [97_780 - 45_990, 0]);
-        assert_eq!(loss, [4_940 - 1_752, 9_143]);
-        assert_eq!(credit, [3_118, 9_213]);
-        assert_eq!(net, [51_860, -70]);
     }
 
     #[test]

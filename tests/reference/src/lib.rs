@@ -3,6 +3,7 @@
 //!
 //! Nothing here is taken from the engine: the two share the document alone.
 
+pub mod examples;
 pub mod exercise;
 pub mod hour;
 pub mod load;

@@ -1,7 +1,9 @@
 //! `reference CALL COUNT SEED` prints cases for a call, one a line, with the
-//! answer and the output that document 01 asks for.
+//! answer and the output that document 01 asks for. `reference example NAME`
+//! writes the bytes of `examples/NAME.exercise`.
 
 use reference::cases::{check, hour, load, row, split};
+use reference::examples;
 use reference::random::Random;
 use std::io::{self, BufWriter, Write};
 use std::process::ExitCode;
@@ -20,6 +22,12 @@ const CALLS: [(&str, &str, Line); 5] = [
 fn main() -> ExitCode {
     let words: Vec<String> = std::env::args().skip(1).collect();
     let (call, count, seed) = match words.as_slice() {
+        [word, name] if word == "example" => {
+            return match examples::bytes(name) {
+                Some(bytes) => status(io::stdout().write_all(&bytes)),
+                None => usage(),
+            }
+        }
         [call, count, seed] => (call, count.parse(), seed.parse()),
         _ => return usage(),
     };
@@ -31,7 +39,11 @@ fn main() -> ExitCode {
         Some(&(_, header, line)) => (header, line),
         None => return usage(),
     };
-    match print(header, line, count, seed) {
+    status(print(header, line, count, seed))
+}
+
+fn status(done: io::Result<()>) -> ExitCode {
+    match done {
         Ok(()) => ExitCode::SUCCESS,
         Err(error) => {
             eprintln!("reference: {error}");
@@ -52,6 +64,8 @@ fn print(header: &str, line: Line, count: usize, seed: u64) -> io::Result<()> {
 
 fn usage() -> ExitCode {
     let names: Vec<&str> = CALLS.iter().map(|(name, ..)| *name).collect();
+    let examples: Vec<&str> = examples::ALL.iter().map(|(name, _)| *name).collect();
     eprintln!("usage: reference {} COUNT SEED", names.join("|"));
+    eprintln!("       reference example {}", examples.join("|"));
     ExitCode::from(2)
 }

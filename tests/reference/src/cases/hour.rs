@@ -66,7 +66,7 @@ pub fn draw(turn: usize, random: &mut Random) -> (Vec<u8>, [usize; 4]) {
         let case = if round % 2 == 1 {
             large_with_fault(round / 2, random)
         } else {
-            Case::new(large(round / 2 % 5, random))
+            Case::new(large(round / 2 % 6, random))
         };
         return (case.bytes(), case.lists);
     }
@@ -76,6 +76,7 @@ pub fn draw(turn: usize, random: &mut Random) -> (Vec<u8>, [usize; 4]) {
         6 => Case::new(day_ahead_only(round, random)),
         7 => Case::new(negative_surplus(random)),
         8 => Case::new(ties(random)),
+        9 if round % 10 == 9 => Case::new(without_rows(round / 10, random)),
         9 => Case::new(single_participant(random)),
         10 => Case::new(mirrored(4, 4, 20, 6, random)),
         11 => Case::new(halves(random)),
@@ -286,22 +287,19 @@ fn large(variant: usize, random: &mut Random) -> File {
         0 => noise(64, 64, 2_048, 256, &sizes, random),
         1 => {
             let participants = random.pick(&[1, 2, 64]);
-            let mut file = noise(participants, 1, 2_048, 0, &sizes, random);
-            if random.once_in(2) {
-                // At any one of several locations.
-                let location = random.index(5);
-                file = File {
-                    rows: file.rows,
-                    ..noise(participants, 5, 0, 9, &sizes, random)
-                };
-                for row in &mut file.rows {
-                    row.location = location;
-                }
+            noise(participants, 1, 2_048, 0, &sizes, random)
+        }
+        2 => {
+            // At one of several locations.
+            let location = random.index(5);
+            let mut file = noise(random.pick(&[1, 2, 64]), 5, 2_048, 9, &sizes, random);
+            for row in &mut file.rows {
+                row.location = location;
             }
             file
         }
-        2 => largest_charge(random),
-        3 => mirrored(64, 64, 2_048, 256, random),
+        3 => largest_charge(random),
+        4 => mirrored(64, 64, 2_048, 256, random),
         _ => {
             let (participants, locations) = (1 + random.index(64), 1 + random.index(64));
             let (rows, transactions) = (random.index(2_049), random.index(257));
@@ -412,6 +410,14 @@ fn single_participant(random: &mut Random) -> File {
     let sizes = Sizes::any(random);
     let (locations, rows) = (1 + random.index(6), 1 + random.index(20));
     noise(1, locations, rows, random.index(6), &sizes, random)
+}
+
+/// No row, and with the fewest locations the shortest file there is.
+fn without_rows(round: usize, random: &mut Random) -> File {
+    let sizes = Sizes::any(random);
+    let (participants, locations) = [(1, 1), (64, 1), (1, 64), (64, 64)][round % 4];
+    let transactions = [0, 1, 256][round / 4 % 3];
+    noise(participants, locations, 0, transactions, &sizes, random)
 }
 
 /// Prices and kW at their limits, and to every row or transaction but a few its
@@ -854,6 +860,8 @@ fn spoil_list(case: &mut Case, list: usize, random: &mut Random) {
         length + 1,
         length + 4,
         512,
+        520,
+        4_096,
     ];
     case.lists[list] = random.pick(&lengths);
 }
@@ -887,6 +895,7 @@ mod tests {
     use crate::exercise;
     use crate::numbers::{self, unhex};
     use std::cmp::Ordering;
+    use std::collections::BTreeMap;
 
     #[test]
     fn faults_get_their_numbers() {
@@ -960,6 +969,121 @@ mod tests {
                 }
             }
         }
+    }
+
+    /// What can be said of an accepted hour.
+    fn shapes(file: &[u8], lists: &[Vec<u8>; 4]) -> Vec<String> {
+        let header = exercise::read_header(file).unwrap();
+        let hour = exercise::read_hour(file, &header).unwrap();
+        let [congestion, loss, ..] = lists.clone().map(|list| numbers::read(&list).unwrap());
+        let surplus: i64 = loss.iter().sum();
+        let mut shares = vec![0; hour.participants];
+        for row in &hour.rows {
+            if row.market == REAL_TIME && [LOAD, EXPORT].contains(&row.kind) {
+                shares[row.participant] += row.kw;
+            }
+        }
+        let sharing: Vec<i64> = shares.iter().copied().filter(|&share| share > 0).collect();
+        let all_equal = sharing.iter().all(|&share| share == sharing[0]);
+        let odd_cents = !sharing.is_empty() && surplus % sharing.len() as i64 != 0;
+        let has_price = |price| {
+            let stretches = [&hour.congestion, &hour.loss];
+            stretches.iter().any(|list| {
+                list.day_ahead.contains(&price)
+                    || list.real_time.iter().flatten().any(|&p| p == price)
+            })
+        };
+        let place = |at: usize| hour.rows[at].location;
+        let one_location = (1..hour.rows.len()).all(|at| place(at) == place(0));
+        [
+            (
+                "only day-ahead rows",
+                !hour.rows.is_empty()
+                    && hour.rows.iter().all(|row| row.market == DAY_AHEAD)
+                    && congestion.iter().any(|&charge| charge != 0),
+            ),
+            ("a negative surplus", surplus < 0),
+            (
+                "equal remainders, odd cents",
+                sharing.len() > 1 && all_equal && odd_cents,
+            ),
+            (
+                "equal remainders, odd cents below 0",
+                sharing.len() > 1 && all_equal && odd_cents && surplus < 0,
+            ),
+            (
+                "a single participant",
+                hour.participants == 1 && surplus != 0,
+            ),
+            (
+                "2,048 rows at one location",
+                hour.rows.len() == 2_048 && one_location,
+            ),
+            (
+                "2,048 rows at one of several locations",
+                hour.rows.len() == 2_048 && one_location && hour.locations > 1,
+            ),
+            (
+                "prices at both limits",
+                has_price(MOST_PRICE) && has_price(-MOST_PRICE),
+            ),
+            ("the longest file", file.len() == 18_821),
+            ("the shortest file", file.len() == 83),
+            (
+                "transactions alone",
+                hour.rows.is_empty() && congestion.iter().any(|&charge| charge != 0),
+            ),
+            ("the largest surplus", surplus == 1_000_000_000),
+            ("the least surplus", surplus == -1_000_000_000),
+            ("the largest share", shares.contains(&4_000_000_000)),
+        ]
+        .into_iter()
+        .filter(|shape| shape.1)
+        .map(|shape| shape.0.to_string())
+        .collect()
+    }
+
+    /// The lengths of output lists that must be refused, by list.
+    fn shapes_of_lists(participants: usize, lists: &[Vec<u8>; 4]) -> Vec<String> {
+        let right = 8 * participants;
+        let shape = |len: usize| match len {
+            0 => Some("empty"),
+            _ if len % 8 != 0 => Some("ragged"),
+            _ if len > 512 => Some("overlong"),
+            _ if len < right => Some("short"),
+            _ if len > right => Some("long"),
+            _ => None,
+        };
+        (0..4)
+            .filter_map(|at| Some(format!("list {at} {}", shape(lists[at].len())?)))
+            .collect()
+    }
+
+    /// The cases that tests/run tries have each shape among them.
+    #[test]
+    fn families_reach_every_shape() {
+        let mut seen = BTreeMap::new();
+        let mut random = Random::new(1);
+        for turn in 0..6_000 {
+            let line = line(turn, &mut random);
+            let fields: Vec<&str> = line.split('\t').collect();
+            let file = unhex(fields[0]);
+            let after = [6, 7, 8, 9].map(|at| unhex(fields[at]));
+            let shapes = match fields[5] {
+                "0" => shapes(&file, &after),
+                "1" if exercise::check(&file) == 0 => {
+                    let header = exercise::read_header(&file).unwrap();
+                    shapes_of_lists(header.participants, &after)
+                }
+                _ if file.is_empty() => vec!["no file".to_string()],
+                _ => vec![],
+            };
+            for shape in shapes {
+                *seen.entry(shape).or_insert(0) += 1;
+            }
+        }
+        // Fourteen of an hour, five lengths of each list, and the empty file.
+        assert_eq!(seen.len(), 14 + 5 * 4 + 1, "{seen:#?}");
     }
 
     #[test]

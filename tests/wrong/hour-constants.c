@@ -1,0 +1,3 @@
+/* Every list is filled with zeros. */
+#define MISTAKE CONSTANTS
+#include "hour.h"

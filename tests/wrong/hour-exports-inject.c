@@ -1,0 +1,3 @@
+/* Exports inject. */
+#define MISTAKE EXPORTS_INJECT
+#include "hour.h"

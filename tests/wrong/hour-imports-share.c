@@ -1,0 +1,3 @@
+/* Real-time imports count as exports in the surplus. */
+#define MISTAKE IMPORTS_SHARE
+#include "hour.h"
