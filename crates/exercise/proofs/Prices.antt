@@ -3,7 +3,6 @@ use mathlib.Core.Path.{_≡_, sym, _∙_, subst}
 use mathlib.Core.List.{List}
 use Prim.Native.Nat.{ℕ, _+_, _*_, _≤_, _<_}
 use native.Mathlib.Decide.{decLt}
-use native.Mathlib.Nat.{mul-le-mul-right, suc-mul}
 use native.Mathlib.Omega.{arith}
 use lib.IntN.{ℤ, pos, negℤ}
 use lib.ListN.{drop, List·getD-eq-default}
@@ -16,10 +15,6 @@ use Rattle.ints.proofs.Tables.{length-tab, getD-tab}
 use Rattle.ints.proofs.Tests.{between-size}
 use Rattle.ints.proofs.Turns.{turn-none}
 use Rattle.exercise.specs.Price.{priceAt, pricesFrom, priceRefusal, pricesRefusal, intervalOf}
-
--- the stretch of one of n intervals lies within the n
-pub room : (k n l : ℕ) → k < n → k * l + l ≤ n * l
-room k n l h = rw suc-mul at (mul-le-mul-right l h)
 
 price-within : (price : ℤ) → priceRefusal price ≡ 0 → Within price 5000000
 unfolding priceRefusal

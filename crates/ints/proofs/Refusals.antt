@@ -19,11 +19,15 @@ passed false k later e = absurd (some e)
 pub lent-result : {A : Type 0} (answer : ℕ) (result before : List A) → answer ≡ 0 → lent answer result before ≡ result
 lent-result answer result before e = ap (λ (b : Bool). pick b result before) (eq-eqb answer 0 e)
 
+-- .. and after a refused one
+pub lent-before : {A : Type 0} (answer : ℕ) (result before : List A) → (answer ≡ 0 → ⊥) → before ≡ lent answer result before
+lent-before answer result before some = sym (ap (λ (b : Bool). pick b result before) (ne-eqb answer 0 some))
+
 -- ---- the answer r of a call, with what a lent list holds after it
 
 module _ {A : Type 0} (answer : ℕ) (result before : List A) where
   pub kept : (r : ℕ) → (r ≡ 0 → ⊥) → r ≡ answer → (r ≡ answer) × (before ≡ lent answer result before)
-  kept r some e = (e, sym (ap (λ (b : Bool). pick b result before) (ne-eqb answer 0 (λ z. some (e ∙ z)))))
+  kept r some e = (e, lent-before answer result before (λ z. some (e ∙ z)))
 
   pub refused : (k : ℕ) → suc k ≡ answer → (suc k ≡ answer) × (before ≡ lent answer result before)
   refused k e = kept (suc k) some e

@@ -1,5 +1,5 @@
 -- Laws of tabulated lists and of tests over a list. Assumes nothing.
-use mathlib.Core.Path.{_≡_, refl, sym, ap, ap₂, _∙_}
+use mathlib.Core.Path.{_≡_, refl, sym, ap, ap₂, _∙_, subst}
 use mathlib.Core.Logic.{⊎-elim}
 use mathlib.Core.Bool.{Bool, true, _&&_}
 use mathlib.Core.List.{List, [], _∷_, _++_}
@@ -7,8 +7,8 @@ use Prim.Native.Nat.{ℕ, zero, suc, _+_, _≤_, _<_}
 use native.Mathlib.Nat.{eq-or-lt-of-le, le-of-suc-le-suc, not-suc-le-zero}
 use native.Mathlib.Numerals.{add-one}
 use native.Mathlib.Omega.{arith}
-use lib.ListN.{length, getD, take, drop, set, length-append, List·getD-append, drop-of-length-le}
-use lib.Seq.{take-suc-set, take-all, getD-at, getD-take, drop-cons}
+use lib.ListN.{length, getD, take, drop, set, length-append, length-set, List·getD-append, drop-of-length-le}
+use lib.Seq.{take-suc-set, take-all, getD-at, getD-take, getD-set-other, drop-cons, ext-getD}
 use Rattle.ints.specs.Table.{tab, all}
 use Rattle.ints.proofs.Bools.{and-true}
 
@@ -48,6 +48,33 @@ pub tab-ext : {A : Type 0} (f g : ℕ → A) (n : ℕ) → ((i : ℕ) → i < n 
 unfolding tab
 tab-ext {A} f g zero h = refl
 tab-ext {A} f g (suc n) h = ap₂ (λ (t : List A) (x : A). t ++ (x ∷ [])) (tab-ext f g n (λ i l. h i (omega arith))) (h n (omega arith))
+
+-- a list is its numbers
+pub tab-self : {A : Type 0} (d : A) (l : List A) → l ≡ tab (λ i. getD l i d) (length l)
+tab-self d l = ext-getD d l (tab (λ i. getD l i d) (length l)) (sym (length-tab (λ i. getD l i d) (length l))) (λ i h. sym (getD-tab (λ i. getD l i d) d (length l) i h))
+
+-- a loop that changes the numbers of a list where they are: the first i are f's, and the others are as they were
+module _ {A : Type 0} (d : A) (f : ℕ → A) (before : List A) where
+  pub record InPlace (i : ℕ) (l : List A) : Type 0 where
+    pub made : take i l ≡ tab f i
+    pub rest : (j : ℕ) → i ≤ j → getD l j d ≡ getD before j d
+    pub long : length l ≡ length before
+
+  pub place-start : InPlace 0 before
+  place-start = record { made = tab-none f; rest = λ j _. refl; long = refl }
+
+  pub place-next : (l after : List A) (i : ℕ) (v : A) → InPlace i l → i < length before → v ≡ f i → after ≡ set l i v → InPlace (i + 1) after
+  place-next l after i v p h q e = subst (InPlace (i + 1)) (sym e) (record {
+    made = tab-store f l i v (omega (arith, p .long)) q (p .made);
+    rest = λ j k. getD-set-other l i j v d (λ z. same i (subst (λ (j : ℕ). i + 1 ≤ j) z k)) ∙ p .rest j (omega arith);
+    long = length-set l i v ∙ p .long;
+  })
+    where
+      same : (i : ℕ) → i + 1 ≤ i → ⊥
+      same i h = omega arith
+
+  pub place-done : (l : List A) (i : ℕ) → InPlace i l → length before ≤ i → i ≤ length before → l ≡ tab f (length before)
+  place-done l i p h k = tab-done f l i (omega (arith, p .long)) (p .made) ∙ ap (tab f) (p .long)
 
 -- ---- a test over a list, element by element
 

@@ -87,12 +87,19 @@ module _ {X D : Type 0} (accepted : X → D) (refused : ℕ → D) (number : D �
       pub answer-next : (x : X) → d ≡ accepted x → inTurn f (i + 1) ≡ 0
       answer-next x q = turn-next f i before (sym (answer-number (f i) (things i)) ∙ ap number (sym e ∙ q) ∙ no x)
 
-      -- the first refused one
-      pub answer-first : ((x : X) (r : ℕ) → accepted x ≡ refused r → ⊥) → (r n : ℕ) → d ≡ refused r → i < n → number d ≡ inTurn f n
-      answer-first apart r n q h = ap number e ∙ answer-number (f i) (things i) ∙ sym (turn-first f i n h before some)
-        where
-          some : f i ≡ 0 → ⊥
-          some z = apart (things i) r (answer-accepted accepted refused (f i) (things i) (things i) z refl ∙ sym e ∙ q)
+      -- a refused thing: its number is not 0, and the first one's is that of all
+      module _ (apart : (x : X) (r : ℕ) → accepted x ≡ refused r → ⊥) (r : ℕ) (q : d ≡ refused r) where
+        own-number : number d ≡ f i
+        own-number = ap number e ∙ answer-number (f i) (things i)
+
+        some : f i ≡ 0 → ⊥
+        some z = apart (things i) r (answer-accepted accepted refused (f i) (things i) (things i) z refl ∙ sym e ∙ q)
+
+        pub answer-some : number d ≡ 0 → ⊥
+        answer-some z = some (sym own-number ∙ z)
+
+        pub answer-first : (n : ℕ) → i < n → number d ≡ inTurn f n
+        answer-first n h = own-number ∙ sym (turn-first f i n h before some)
 
 -- what an answer is, where it is accepted: the thing, which has no refusal
 pub answer-taken : {X D : Type 0} (accepted : X → D) (refused : ℕ → D) → ((x y : X) → accepted x ≡ accepted y → x ≡ y) → ((x : X) (r : ℕ) → accepted x ≡ refused r → ⊥)

@@ -3,7 +3,7 @@ use mathlib.Core.Path.{_≡_, refl}
 use mathlib.Core.List.{List}
 use Prim.Native.Nat.{ℕ, _+_, _<_}
 use native.Mathlib.Omega.{arith}
-use Rattle.ints.proofs.Turns.{answer-next, answer-first, answer-taken}
+use Rattle.ints.proofs.Turns.{answer-next, answer-first, answer-some, answer-taken}
 use Rattle.rows.specs.Row.{rowAt, rowRefusalAt, decodedRowAt, rowNumber, rowsRefusal}
 use Rattle.rows.specs.Transaction.{transactionAt, transactionRefusalAt, decodedTransactionAt, transactionNumber, transactionsRefusal}
 use Rattle.rows.specs.declared.DecodedRow.{DecodedRow}
@@ -21,10 +21,10 @@ row-inside x y e = cc
 pub row-apart : (x : Row) (k : ℕ) → DecodedRow.Decoded x ≡ DecodedRow.Refused k → ⊥
 row-apart x k e = let z : _≡_ {A = ℕ} 0 1 = cc in omega arith
 
-transaction-inside : (x y : Transaction) → DecodedTransaction.Decoded x ≡ DecodedTransaction.Decoded y → x ≡ y
+pub transaction-inside : (x y : Transaction) → DecodedTransaction.Decoded x ≡ DecodedTransaction.Decoded y → x ≡ y
 transaction-inside x y e = cc
 
-transaction-apart : (x : Transaction) (k : ℕ) → DecodedTransaction.Decoded x ≡ DecodedTransaction.Refused k → ⊥
+pub transaction-apart : (x : Transaction) (k : ℕ) → DecodedTransaction.Decoded x ≡ DecodedTransaction.Refused k → ⊥
 transaction-apart x k e = let z : _≡_ {A = ℕ} 0 1 = cc in omega arith
 
 -- ---- what is decoded at a place
@@ -44,11 +44,17 @@ module _ (participants locations : ℕ) (s : List ℕ) (i : ℕ) where
     row-next = answer-next DecodedRow.Decoded DecodedRow.Refused rowNumber (λ _. refl) (λ _. refl) (rowRefusalAt participants locations s) (rowAt s) i before d e
 
     pub row-first : (k n : ℕ) → d ≡ DecodedRow.Refused k → i < n → rowNumber d ≡ rowsRefusal participants locations s n
-    row-first = answer-first DecodedRow.Decoded DecodedRow.Refused rowNumber (λ _. refl) (λ _. refl) (rowRefusalAt participants locations s) (rowAt s) i before d e row-apart
+    row-first k n q h = answer-first DecodedRow.Decoded DecodedRow.Refused rowNumber (λ _. refl) (λ _. refl) (rowRefusalAt participants locations s) (rowAt s) i before d e row-apart k q n h
+
+    pub row-some : (k : ℕ) → d ≡ DecodedRow.Refused k → rowNumber d ≡ 0 → ⊥
+    row-some k q = answer-some DecodedRow.Decoded DecodedRow.Refused rowNumber (λ _. refl) (λ _. refl) (rowRefusalAt participants locations s) (rowAt s) i before d e row-apart k q
 
   module _ (d : DecodedTransaction) (e : d ≡ decodedTransactionAt participants locations s i) (before : transactionsRefusal participants locations s i ≡ 0) where
     pub transaction-next : (t : Transaction) → d ≡ DecodedTransaction.Decoded t → transactionsRefusal participants locations s (i + 1) ≡ 0
     transaction-next = answer-next DecodedTransaction.Decoded DecodedTransaction.Refused transactionNumber (λ _. refl) (λ _. refl) (transactionRefusalAt participants locations s) (transactionAt s) i before d e
 
     pub transaction-first : (k n : ℕ) → d ≡ DecodedTransaction.Refused k → i < n → transactionNumber d ≡ transactionsRefusal participants locations s n
-    transaction-first = answer-first DecodedTransaction.Decoded DecodedTransaction.Refused transactionNumber (λ _. refl) (λ _. refl) (transactionRefusalAt participants locations s) (transactionAt s) i before d e transaction-apart
+    transaction-first k n q h = answer-first DecodedTransaction.Decoded DecodedTransaction.Refused transactionNumber (λ _. refl) (λ _. refl) (transactionRefusalAt participants locations s) (transactionAt s) i before d e transaction-apart k q n h
+
+    pub transaction-some : (k : ℕ) → d ≡ DecodedTransaction.Refused k → transactionNumber d ≡ 0 → ⊥
+    transaction-some k q = answer-some DecodedTransaction.Decoded DecodedTransaction.Refused transactionNumber (λ _. refl) (λ _. refl) (transactionRefusalAt participants locations s) (transactionAt s) i before d e transaction-apart k q

@@ -3,7 +3,7 @@ use mathlib.Core.Path.{_≡_, refl, sym, subst}
 use mathlib.Core.Logic.{inl, inr}
 use mathlib.Core.Bool.{Bool, true, false}
 use mathlib.Core.List.{List, List·Memᴰ}
-use Prim.Native.Nat.{ℕ, _<_}
+use Prim.Native.Nat.{ℕ, _≤_, _<_}
 use native.Mathlib.Omega.{arith}
 use lib.Dec.{ltb, leb, eqb}
 use borrow.Author.Tests.{ltb-true, leb-true, eqb-true, eqb-false}
@@ -98,3 +98,11 @@ module _ (participants locations : ℕ) where
     transactions-tested n e t m =
         let place = from-tab (transactionAt s) n t m in
         subst (TransactionTested participants locations) (sym (place .2)) (transaction-at-tested (place .0) (turn-none (transactionRefusalAt participants locations s) n e (place .0) (place .1)))
+
+-- ---- with so many participants, or more
+
+pub row-wider : {participants most locations : ℕ} {r : Row} → participants ≤ most → RowTested participants locations r → RowTested most locations r
+row-wider h t = record { timed = t .timed; kind = t .kind; real = t .real; participant = omega (arith, t .participant); location = t .location; kw = t .kw }
+
+pub transaction-wider : {participants most locations : ℕ} {t : Transaction} → participants ≤ most → TransactionTested participants locations t → TransactionTested most locations t
+transaction-wider h t = record { timed = t .timed; participant = omega (arith, t .participant); source = t .source; sink = t .sink; kw = t .kw }

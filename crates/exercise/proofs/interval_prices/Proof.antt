@@ -4,7 +4,7 @@ use Prim.Native.Nat.{ℕ, _+_, _*_, _-_, _≤_}
 use native.Mathlib.Omega.{arith}
 use lib.ListN.{take, drop}
 use borrow.Author.Needs.{needs}
-use Rattle.exercise.proofs.Prices.{room}
+use Rattle.ints.proofs.Ranges.{room}
 use Rattle.exercise.proofs.interval_prices.Statement.{statement}
 use Rattle.exercise.proofs.interval_prices.Tie as tie
 

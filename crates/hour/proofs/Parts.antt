@@ -1,0 +1,65 @@
+-- The parts of a file that passes the order to its length, as they were read. Assumes nothing.
+use mathlib.Core.Path.{_≡_, sym, ap, _∙_, subst}
+use mathlib.Core.List.{List}
+use Prim.Native.Nat.{ℕ, _≤_}
+use native.Mathlib.Omega.{arith}
+use lib.IntN.{ℤ}
+use lib.ListN.{length}
+use Rattle.rows.specs.Row.{rowsIn}
+use Rattle.rows.specs.Transaction.{transactionsIn}
+use Rattle.rows.specs.declared.Row.{Row}
+use Rattle.rows.specs.declared.Transaction.{Transaction}
+use Rattle.exercise.specs.File.{header, placesOf, places, part, rows, transactions, throughLength, fromPrices}
+use Rattle.exercise.specs.declared.Header.{Header}
+use Rattle.exercise.specs.declared.Places.{Places}
+use Rattle.exercise.proofs.Whole.{Found, found, Whole, whole, small-read, part-length}
+use Rattle.hour.specs.Charges.{congestionPrices, lossPrices}
+use Rattle.hour.specs.Given.{Parts, partsRefusal, congestionIn, lossIn, Charged, Shared}
+
+module _ (file : List ℕ) (passes : throughLength file ≡ 0) (h : Header) (e : h ≡ header file) (p : Places) (f : p ≡ placesOf h) where
+  -- what holds of what was read holds of the file's own
+  of-file : (P : Header → Places → Type 0) → P h p → P (header file) (places file)
+  of-file P x = subst (λ (q : Places). P (header file) q) (f ∙ ap placesOf e) (subst (λ (g : Header). P g p) e x)
+
+  pub its-parts : Parts h (part (p .prices) (p .rows) file) (part (p .rows) (p .transactions) file) (part (p .transactions) (p .end) file)
+  its-parts =
+      let k = found file passes h e p f in
+      let w = whole file passes in
+      let s = small-read file h e in
+      record {
+        participants = s .participants;
+        locations = s .locations;
+        few-rows = omega (arith, ap (λ (g : Header). g .rows) e, w .rows);
+        few-transactions = omega (arith, ap (λ (g : Header). g .transactions) e, w .transactions);
+        prices-whole = omega (arith, part-length (p .prices) (p .rows) file (omega arith) (omega arith));
+        rows-whole = omega (arith, part-length (p .rows) (p .transactions) file (omega arith) (omega arith));
+        transactions-whole = omega (arith, part-length (p .transactions) (p .end) file (omega arith) (omega arith));
+      }
+
+  -- so do the refusal, the charges and the shares
+  abbrev pricesOf : Places → List ℕ
+  pricesOf p = part (p .prices) (p .rows) file
+
+  abbrev rowsOf : Header → Places → List Row
+  rowsOf h p = rowsIn (part (p .rows) (p .transactions) file) (h .rows)
+
+  abbrev transactionsOf : Header → Places → List Transaction
+  transactionsOf h p = transactionsIn (part (p .transactions) (p .end) file) (h .transactions)
+
+  pub file-refusal : (r : ℕ) → r ≡ partsRefusal h (pricesOf p) (part (p .rows) (p .transactions) file) (part (p .transactions) (p .end) file) → r ≡ fromPrices file
+  unfolding fromPrices
+  file-refusal r = of-file (λ h p. r ≡ partsRefusal h (pricesOf p) (part (p .rows) (p .transactions) file) (part (p .transactions) (p .end) file))
+
+  pub file-congestion : {totals : List ℤ} → Charged (congestionIn h (pricesOf p)) (rowsOf h p) (transactionsOf h p) totals → Charged (congestionPrices file) (rows file) (transactions file) totals
+  file-congestion {totals} = of-file (λ h p. Charged (congestionIn h (pricesOf p)) (rowsOf h p) (transactionsOf h p) totals)
+
+  pub file-loss : {totals : List ℤ} → Charged (lossIn h (pricesOf p)) (rowsOf h p) (transactionsOf h p) totals → Charged (lossPrices file) (rows file) (transactions file) totals
+  file-loss {totals} = of-file (λ h p. Charged (lossIn h (pricesOf p)) (rowsOf h p) (transactionsOf h p) totals)
+
+  pub file-shares : {totals : List ℤ} → Shared (rowsOf h p) totals → Shared (rows file) totals
+  file-shares {totals} = of-file (λ h p. Shared (rowsOf h p) totals)
+
+-- a file has a participant
+pub some-participant : (file : List ℕ) → 1 ≤ header file .participants
+unfolding header
+some-participant file = omega arith

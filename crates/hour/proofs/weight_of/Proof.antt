@@ -1,0 +1,43 @@
+-- `hour::weight_of` meets its contract. Assumes nothing.
+use mathlib.Core.Path.{_≡_, ap, _∙_}
+use mathlib.Core.List.{List}
+use Prim.Native.Nat.{_*_}
+use native.Mathlib.Omega.{arith}
+use lib.IntN.{ℤ, pos}
+use lib.ListN.{length, drop, length-take, length-drop}
+use lib.Seq.{getD-take}
+use borrow.Author.Needs.{needs}
+use borrow.Author.Tests.{eq-eqb, ne-eqb}
+use Rattle.ints.specs.Table.{_at_}
+use Rattle.ints.proofs.Ranges.{room}
+use Rattle.exercise.specs.Price.{intervalOf}
+use Rattle.hour.proofs.weight_of.Statement.{statement}
+use Rattle.hour.proofs.weight_of.Tie as tie
+
+stretch-length : (s : tie.Start) → length (intervalOf (s .args .real .now) (s .args .locations) (s .args .interval)) ≡ s .args .locations
+stretch-length s = simp (length-take, length-drop) (omega (arith, room (s .args .interval) 12 (s .args .locations) (s .pre .0), s .pre .2 .real-length))
+
+price-at-requires : tie.Need-price-at-requires
+price-at-requires c κs = search needs
+
+returns : tie.Need-returns
+returns c = simp (eq-eqb _ _ (c .before .if1 .taken)) (c .price-at .ensures)
+
+interval-prices-requires : tie.Need-interval-prices-requires
+interval-prices-requires c κs = search needs
+
+price-at-requires-2 : tie.Need-price-at-requires-2
+price-at-requires-2 c κs = let s = c .before .before in
+    omega (arith, s .pre .1, ap length (c .interval-prices .ensures .0) ∙ stretch-length s)
+
+returns-2 : tie.Need-returns-2
+returns-2 c = let i = c .before in
+    let s = i .before .before in
+    simp (ne-eqb _ _ (i .before .if1 .left))
+    (c .price-at2 .ensures ∙ ap (λ (xs : List ℤ). xs at s .args .location) (i .interval-prices .ensures .0)
+    ∙ getD-take (s .args .locations) (drop (s .args .interval * s .args .locations) (s .args .real .now)) (s .args .location) (pos 0) (s .pre .1))
+
+pub weight-of-spec : {M : Type 1} → statement M
+weight-of-spec =
+    tie.close
+    (tie.spec price-at-requires returns interval-prices-requires price-at-requires-2 returns-2)

@@ -1,0 +1,135 @@
+-- What the functions of the hour hand to one another. Assumes nothing.
+use mathlib.Core.Path.{_≡_}
+use mathlib.Core.List.{List}
+use Prim.Native.Nat.{ℕ, _+_, _*_, _≤_}
+use lib.IntN.{ℤ, pos, _+ℤ_, _-ℤ_, _*ℤ_}
+use lib.ListN.{length}
+use Rattle.ints.specs.Every.{Added, owed}
+use Rattle.ints.specs.Range.{InRange}
+use Rattle.ints.specs.Table.{_at_}
+use Rattle.ints.specs.Turn.{_then_}
+use Rattle.rows.specs.Row.{rowsIn, rowsRefusal}
+use Rattle.rows.specs.Transaction.{transactionsIn, transactionsRefusal}
+use Rattle.rows.specs.declared.Row.{Row}
+use Rattle.rows.specs.declared.Transaction.{Transaction}
+use Rattle.exercise.specs.File.{priceCount}
+use Rattle.exercise.specs.Price.{pricesFrom, pricesRefusal}
+use Rattle.exercise.specs.declared.Header.{Header}
+use Rattle.tariff.specs.Parts.{sign, weightIn}
+use Rattle.tariff.specs.Tariff.{Prices, priceList, charge}
+use Rattle.hour.specs.Share.{shareKw}
+
+-- ---- the tables that rows and transactions are weighed by
+
+-- a day-ahead weight for each of so many locations, made of 24 prices, and 12 times as many real-time prices
+pub record Tables (locations : ℕ) (weights real : List ℤ) : Type 0 where
+  pub few : locations ≤ 64
+  pub weights-length : length weights ≡ locations
+  pub real-length : length real ≡ 12 * locations
+  pub weights-range : InRange weights 120000000
+  pub real-range : InRange real 5000000
+
+-- lists that they can be made in
+pub record Space (locations : ℕ) (weights real : List ℤ) : Type 0 where
+  pub weights-length : length weights ≡ locations
+  pub real-length : length real ≡ 12 * locations
+
+-- what a row, and a transaction, adds to its participant's total
+abbrev pub partIn : List ℤ → List ℤ → ℕ → Row → ℤ
+partIn weights real locations r =
+    sign (r .kind) *ℤ pos (r .kw .0) *ℤ weightIn weights real locations (r .market) (r .interval) (r .location)
+
+abbrev pub pathPartIn : List ℤ → List ℤ → ℕ → Transaction → ℤ
+pathPartIn weights real locations t =
+    pos (t .kw .0) *ℤ (weightIn weights real locations (t .market) (t .interval) (t .sink) -ℤ weightIn weights real locations (t .market) (t .interval) (t .source))
+
+-- ---- every participant's total with what its rows, or transactions, add
+
+abbrev pub RowsAdded : List Row → ℕ → List ℤ → List ℤ → List ℤ → List ℤ → Type 0
+RowsAdded rows locations weights real before after = Added (λ r. r .participant) (partIn weights real locations) rows before after
+
+abbrev pub SharesAdded : List Row → List ℤ → List ℤ → Type 0
+SharesAdded rows before after = Added (λ r. r .participant) shareKw rows before after
+
+abbrev pub TransactionsAdded : List Transaction → ℕ → List ℤ → List ℤ → List ℤ → List ℤ → Type 0
+TransactionsAdded transactions locations weights real before after = Added (λ t. t .participant) (pathPartIn weights real locations) transactions before after
+
+-- rows, then transactions: their refusal, and what they add to totals that were 0
+abbrev pub bothRefusal : Header → List ℕ → List ℕ → ℕ
+bothRefusal h rows transactions =
+    rowsRefusal (h .participants) (h .locations) rows (h .rows)
+    then transactionsRefusal (h .participants) (h .locations) transactions (h .transactions)
+
+pub record BothAdded (h : Header) (rows transactions : List ℕ) (weights real totals : List ℤ) : Type 0 where
+  pub each : (p : ℕ) → totals at p
+      ≡ owed (λ r. r .participant) (partIn weights real (h .locations)) (rowsIn rows (h .rows)) p
+      +ℤ owed (λ t. t .participant) (pathPartIn weights real (h .locations)) (transactionsIn transactions (h .transactions)) p
+
+-- ---- a total for each of 64 participants
+
+pub record Totals (totals : List ℤ) (k : ℕ) : Type 0 where
+  pub long : length totals ≡ 64
+  pub range : InRange totals k
+
+-- of 2,048 rows at most 20,000,000 kW each
+abbrev pub sharesMost : ℕ
+sharesMost = 40960000000
+
+-- .. at a weight of at most 120,000,000
+abbrev pub rowsMost : ℕ
+rowsMost = 4915200000000000000
+
+-- .. and of 256 transactions, which have two weights each: below 2 ^ 63
+abbrev pub hourMost : ℕ
+hourMost = 6144000000000000000
+
+-- ---- prices
+
+-- a price list of a stretch of prices: so many day-ahead prices from price j on, and 12 times as many real-time prices from price k on
+abbrev pub pricesAt : List ℕ → ℕ → ℕ → ℕ → Prices
+pricesAt prices locations j k = priceList locations (pricesFrom prices j locations) (pricesFrom prices k (12 * locations))
+
+-- they are among the 26 prices of each location that the stretch holds, and none of those is refused
+pub record Priced (prices : List ℕ) (locations j k : ℕ) : Type 0 where
+  pub few : locations ≤ 64
+  pub accepted : pricesRefusal prices (26 * locations) ≡ 0
+  pub whole : 3 * (26 * locations) ≤ length prices
+  pub ahead : j + locations ≤ 26 * locations
+  pub real : k + 12 * locations ≤ 26 * locations
+
+-- ---- the parts of a file
+
+pub record Parts (h : Header) (prices rows transactions : List ℕ) : Type 0 where
+  pub participants : h .participants ≤ 64
+  pub locations : h .locations ≤ 64
+  pub few-rows : h .rows ≤ 2048
+  pub few-transactions : h .transactions ≤ 256
+  pub prices-whole : 3 * priceCount h ≤ length prices
+  pub rows-whole : 6 * h .rows ≤ length rows
+  pub transactions-whole : 6 * h .transactions ≤ length transactions
+
+-- prices, rows and transactions: their refusal
+abbrev pub partsRefusal : Header → List ℕ → List ℕ → List ℕ → ℕ
+partsRefusal h prices rows transactions = pricesRefusal prices (priceCount h) then bothRefusal h rows transactions
+
+-- the congestion and the loss prices
+abbrev pub congestionIn : Header → List ℕ → Prices
+congestionIn h prices = pricesAt prices (h .locations) 0 (h .locations)
+
+abbrev pub lossIn : Header → List ℕ → Prices
+lossIn h prices = pricesAt prices (h .locations) (13 * h .locations) (14 * h .locations)
+
+-- every participant's total is what the tariff charges it, and its share what its rows count
+pub record Charged (prices : Prices) (rows : List Row) (transactions : List Transaction) (totals : List ℤ) : Type 0 where
+  pub each : (p : ℕ) → totals at p ≡ charge prices rows transactions p
+
+pub record Shared (rows : List Row) (shares : List ℤ) : Type 0 where
+  pub each : (p : ℕ) → shares at p ≡ owed (λ r. r .participant) shareKw rows p
+
+-- ---- the four output lists, as long as the participants
+
+pub record Outputs (participants : ℕ) (congestion loss credit net : List ℤ) : Type 0 where
+  pub congestion-each : length congestion ≡ participants
+  pub loss-each : length loss ≡ participants
+  pub credit-each : length credit ≡ participants
+  pub net-each : length net ≡ participants

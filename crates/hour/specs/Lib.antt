@@ -1,0 +1,4 @@
+pub mod Share
+pub mod Given
+pub mod Charges
+pub mod Order

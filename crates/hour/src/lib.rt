@@ -1,0 +1,533 @@
+// Settling an hour: the exercise file's rows and transactions are charged, and the surplus is credited.
+ghost use mathlib.Core.Path.{_≡_};
+ghost use Prim.Native.Nat.{_+_, _*_, _≤_, _<_};
+ghost use lib.IntN.{pos, _+ℤ_, _-ℤ_};
+ghost use lib.ListN.{length, set};
+ghost use mir.Syntax.{w64};
+ghost use mir.Val.{SFits};
+ghost use Rattle.ints.specs.Number.{Within};
+ghost use Rattle.ints.specs.Range.{InRange};
+ghost use Rattle.ints.specs.Refusal.{lent};
+ghost use Rattle.ints.specs.Table.{_at_, tab};
+ghost use Rattle.units.specs.Units.{wholeHour};
+ghost use Rattle.rows.specs.Row.{rowsIn, rowsRefusal};
+ghost use Rattle.rows.specs.Tested.{RowTested, TransactionTested};
+ghost use Rattle.rows.specs.Transaction.{transactionsIn, transactionsRefusal};
+ghost use Rattle.exercise.specs.File.{rows, transactions, throughLength, fromPrices};
+ghost use Rattle.exercise.specs.Price.{pricesFrom};
+ghost use Rattle.tariff.specs.Tariff.{priceList};
+ghost use Rattle.tariff.specs.Parts.{aheadWeight, weightIn};
+ghost use Rattle.hour.specs.Share.{isShare, shareKw};
+ghost use Rattle.hour.specs.Given.{Tables, Totals, sharesMost, rowsMost, hourMost, partIn, pathPartIn, RowsAdded, SharesAdded, TransactionsAdded, bothRefusal, BothAdded, pricesAt, Priced, Parts, Space, partsRefusal, congestionIn, lossIn, Charged, Shared, Outputs};
+ghost use Rattle.hour.specs.Charges.{participants, congestionPrices, lossPrices, congestionCharges, lossCharges, credits, nets};
+ghost use Rattle.hour.specs.Order.{hourRefusal, wholeRefusal};
+use exercise::DecodedRow;
+use exercise::DecodedTransaction;
+use exercise::Header;
+use exercise::Row;
+use exercise::Transaction;
+use units::Kw;
+use units::Mills;
+use units::Twelfths;
+
+// ---- the weight of a day-ahead kW at each location
+
+// A weight, stored.
+fn put(weights: &mut [i64], l: usize, weight: Mills)
+    requires { ⌜ l < length (now weights) ⌝ }
+    ensures { λ _. ⌜ now (weights .exit) ≡ set (now (weights .entry)) l (weight .0) ⌝ }
+{
+    let mills = weight.0;
+    weights[l] = mills;
+}
+
+// A price, taken from a weight.
+fn take(weights: &mut [i64], l: usize, price: Mills)
+    requires { ⌜ (l < length (now weights)) × SFits w64 (now weights at l -ℤ price .0) ⌝ }
+    ensures { λ _. ⌜ now (weights .exit) ≡ set (now (weights .entry)) l (now (weights .entry) at l -ℤ price .0) ⌝ }
+{
+    weights[l] = weights[l] - price.0;
+}
+
+// Day-ahead prices, for the whole hour.
+fn put_ahead(weights: &mut [i64])
+    requires { ⌜ InRange (now weights) 5000000 ⌝ }
+    ensures { λ _. ⌜ now (weights .exit) ≡ tab (λ l. wholeHour (now (weights .entry) at l)) (length (now (weights .entry))) ⌝ }
+{
+    let mut l: usize = 0;
+    while l < weights.len() {
+        let weight = units::whole_hour(Mills(weights[l]));
+        put(weights, l, weight);
+        l += 1;
+    }
+}
+
+// An interval's prices, taken from the weight of each location.
+fn take_interval(prices: &[i64], weights: &mut [i64])
+    requires { ⌜ (length (now prices) ≡ length (now weights)) × InRange (now prices) 5000000 × InRange (now weights) 120000000 ⌝ }
+    ensures { λ _. ⌜ now (weights .exit) ≡ tab (λ l. now (weights .entry) at l -ℤ now (prices .entry) at l) (length (now (weights .entry))) ⌝ }
+{
+    let mut l: usize = 0;
+    while l < weights.len() {
+        take(weights, l, Mills(prices[l]));
+        l += 1;
+    }
+}
+
+// Day-ahead prices, made into weights: a day-ahead kW is priced for the hour and taken back in each of the 12 intervals.
+fn weigh(real: &[i64], weights: &mut [i64])
+    requires { ⌜ (length (now weights) ≤ 64) × (length (now real) ≡ 12 * length (now weights)) × InRange (now real) 5000000 × InRange (now weights) 5000000 ⌝ }
+    ensures { λ _. ⌜ now (weights .exit) ≡ tab (aheadWeight (priceList (length (now (weights .entry))) (now (weights .entry)) (now (real .entry)))) (length (now (weights .entry))) ⌝ }
+{
+    put_ahead(weights);
+    let mut k: usize = 0;
+    while k < 12 {
+        take_interval(exercise::interval_prices(real, weights.len(), k), weights);
+        k += 1;
+    }
+}
+
+// ---- a row, a transaction
+
+// A number of a table.
+fn price_at(prices: &[i64], l: usize) -> Mills
+    requires { ⌜ l < length (now prices) ⌝ }
+    ensures { λ r. ⌜ r .0 ≡ now (prices .entry) at l ⌝ }
+{
+    Mills(prices[l])
+}
+
+// What a kW counts: day-ahead the location's weight, in real time the price in the interval's own stretch of the list.
+fn weight_of(
+    locations: usize,
+    weights: &[i64],
+    real: &[i64],
+    market: u8,
+    interval: u8,
+    location: u16,
+) -> Mills
+    requires { ⌜ (interval < 12) × (location < locations) × Tables locations (now weights) (now real) ⌝ }
+    ensures { λ r. ⌜ r .0 ≡ weightIn (now (weights .entry)) (now (real .entry)) locations market interval location ⌝ }
+{
+    let l = location as usize;
+    if market == 0 {
+        return price_at(weights, l);
+    }
+    price_at(
+        exercise::interval_prices(real, locations, interval as usize),
+        l,
+    )
+}
+
+// An amount, added to a participant's total.
+fn add(totals: &mut [i64], p: usize, amount: Twelfths)
+    requires { ⌜ (p < length (now totals)) × SFits w64 (now totals at p +ℤ amount .0) ⌝ }
+    ensures { λ _. ⌜ now (totals .exit) ≡ set (now (totals .entry)) p (now (totals .entry) at p +ℤ amount .0) ⌝ }
+{
+    totals[p] = totals[p] + amount.0;
+}
+
+// A row's part, added to its participant's total.
+fn add_row(row: Row, locations: usize, weights: &[i64], real: &[i64], totals: &mut [i64])
+    requires { ⌜ RowTested 64 locations row × Tables locations (now weights) (now real) × Totals (now totals) rowsMost ⌝ }
+    ensures { λ _. ⌜ now (totals .exit) ≡ set (now (totals .entry)) (row .participant) (now (totals .entry) at row .participant +ℤ partIn (now (weights .entry)) (now (real .entry)) locations row) ⌝ }
+{
+    let weight = weight_of(
+        locations,
+        weights,
+        real,
+        row.market,
+        row.interval,
+        row.location,
+    );
+    let amount = tariff::row_part(row.kind, row.kw, weight);
+    add(totals, row.participant as usize, amount);
+}
+
+// A transaction's part, added to its participant's total.
+fn add_transaction(
+    transaction: Transaction,
+    locations: usize,
+    weights: &[i64],
+    real: &[i64],
+    totals: &mut [i64],
+)
+    requires { ⌜ TransactionTested 64 locations transaction × Tables locations (now weights) (now real) × Totals (now totals) hourMost ⌝ }
+    ensures { λ _. ⌜ now (totals .exit) ≡ set (now (totals .entry)) (transaction .participant) (now (totals .entry) at transaction .participant +ℤ pathPartIn (now (weights .entry)) (now (real .entry)) locations transaction) ⌝ }
+{
+    let sink = weight_of(
+        locations,
+        weights,
+        real,
+        transaction.market,
+        transaction.interval,
+        transaction.sink,
+    );
+    let source = weight_of(
+        locations,
+        weights,
+        real,
+        transaction.market,
+        transaction.interval,
+        transaction.source,
+    );
+    let amount = tariff::path_part(transaction.kw, sink, source);
+    add(totals, transaction.participant as usize, amount);
+}
+
+// Whether a row of the market and kind counts as a share.
+fn is_share(market: u8, kind: u8) -> bool
+    ensures { λ r. ⌜ r ≡ isShare market kind ⌝ }
+{
+    if market == 1 {
+        kind == 0 || kind == 2
+    } else {
+        false
+    }
+}
+
+// The kW that a row counts as a share.
+fn share_of(row: Row) -> Kw
+    ensures { λ r. ⌜ pos (r .0) ≡ shareKw row ⌝ }
+{
+    if is_share(row.market, row.kind) {
+        return row.kw;
+    }
+    Kw(0)
+}
+
+// kW, added to a participant's share.
+fn add_kw(shares: &mut [i64], p: usize, kw: Kw)
+    requires { ⌜ (p < length (now shares)) × SFits w64 (now shares at p +ℤ pos (kw .0)) ⌝ }
+    ensures { λ _. ⌜ now (shares .exit) ≡ set (now (shares .entry)) p (now (shares .entry) at p +ℤ pos (kw .0)) ⌝ }
+{
+    shares[p] = shares[p] + kw.0 as i64;
+}
+
+// A row's kW, added to its participant's share where they count.
+fn add_share(row: Row, shares: &mut [i64])
+    requires { ⌜ (row .participant < 64) × (row .kw .0 ≤ 20000000) × Totals (now shares) sharesMost ⌝ }
+    ensures { λ _. ⌜ now (shares .exit) ≡ set (now (shares .entry)) (row .participant) (now (shares .entry) at row .participant +ℤ shareKw row) ⌝ }
+{
+    add_kw(shares, row.participant as usize, share_of(row));
+}
+
+// ---- rows and transactions in turn: each is read once, and counts for congestion and for losses
+
+// The first n rows of a stretch, up to the first refused one: its refusal, or 0.
+fn charge_rows(
+    participants: usize,
+    locations: usize,
+    rows: &[u8],
+    n: usize,
+    congestion_weights: &[i64],
+    congestion_real: &[i64],
+    loss_weights: &[i64],
+    loss_real: &[i64],
+    charged: &mut [i64],
+    lost: &mut [i64],
+    shares: &mut [i64],
+) -> u32
+    requires { ⌜ (participants ≤ 64) × (n ≤ 2048) × (6 * n ≤ length (now rows)) ⌝ }
+    requires { ⌜ Tables locations (now «congestion_weights») (now «congestion_real») × Tables locations (now «loss_weights») (now «loss_real») ⌝ }
+    requires { ⌜ Totals (now charged) 0 × Totals (now lost) 0 × Totals (now shares) 0 ⌝ }
+    ensures { λ r. ⌜ r ≡ rowsRefusal participants locations (now (rows .entry)) n ⌝ }
+    ensures { λ r. ⌜ (r ≡ 0 → RowsAdded (rowsIn (now (rows .entry)) n) locations (now («congestion_weights» .entry)) (now («congestion_real» .entry)) (now (charged .entry)) (now (charged .exit)) × InRange (now (charged .exit)) rowsMost) ⌝ }
+    ensures { λ r. ⌜ (r ≡ 0 → RowsAdded (rowsIn (now (rows .entry)) n) locations (now («loss_weights» .entry)) (now («loss_real» .entry)) (now (lost .entry)) (now (lost .exit)) × InRange (now (lost .exit)) rowsMost) ⌝ }
+    ensures { λ r. ⌜ (r ≡ 0 → SharesAdded (rowsIn (now (rows .entry)) n) (now (shares .entry)) (now (shares .exit))) ⌝ }
+{
+    let mut i: usize = 0;
+    while i < n {
+        let decoded = exercise::row_at(participants, locations, rows, i);
+        let DecodedRow::Decoded(row) = decoded else {
+            return exercise::row_number(decoded);
+        };
+        add_row(row, locations, congestion_weights, congestion_real, charged);
+        add_row(row, locations, loss_weights, loss_real, lost);
+        add_share(row, shares);
+        i += 1;
+    }
+    0
+}
+
+// The first n transactions of a stretch, up to the first refused one: its refusal, or 0.
+fn charge_transactions(
+    participants: usize,
+    locations: usize,
+    transactions: &[u8],
+    n: usize,
+    congestion_weights: &[i64],
+    congestion_real: &[i64],
+    loss_weights: &[i64],
+    loss_real: &[i64],
+    charged: &mut [i64],
+    lost: &mut [i64],
+) -> u32
+    requires { ⌜ (participants ≤ 64) × (n ≤ 256) × (6 * n ≤ length (now transactions)) ⌝ }
+    requires { ⌜ Tables locations (now «congestion_weights») (now «congestion_real») × Tables locations (now «loss_weights») (now «loss_real») ⌝ }
+    requires { ⌜ Totals (now charged) rowsMost × Totals (now lost) rowsMost ⌝ }
+    ensures { λ r. ⌜ r ≡ transactionsRefusal participants locations (now (transactions .entry)) n ⌝ }
+    ensures { λ r. ⌜ (r ≡ 0 → TransactionsAdded (transactionsIn (now (transactions .entry)) n) locations (now («congestion_weights» .entry)) (now («congestion_real» .entry)) (now (charged .entry)) (now (charged .exit))) ⌝ }
+    ensures { λ r. ⌜ (r ≡ 0 → TransactionsAdded (transactionsIn (now (transactions .entry)) n) locations (now («loss_weights» .entry)) (now («loss_real» .entry)) (now (lost .entry)) (now (lost .exit))) ⌝ }
+{
+    let mut i: usize = 0;
+    while i < n {
+        let decoded = exercise::transaction_at(participants, locations, transactions, i);
+        let DecodedTransaction::Decoded(transaction) = decoded else {
+            return exercise::transaction_number(decoded);
+        };
+        add_transaction(
+            transaction,
+            locations,
+            congestion_weights,
+            congestion_real,
+            charged,
+        );
+        add_transaction(transaction, locations, loss_weights, loss_real, lost);
+        i += 1;
+    }
+    0
+}
+
+// Rows, then transactions.
+fn charge_both(
+    header: Header,
+    rows: &[u8],
+    transactions: &[u8],
+    congestion_weights: &[i64],
+    congestion_real: &[i64],
+    loss_weights: &[i64],
+    loss_real: &[i64],
+    charged: &mut [i64],
+    lost: &mut [i64],
+    shares: &mut [i64],
+) -> u32
+    requires { ⌜ (header .participants ≤ 64) × (header .rows ≤ 2048) × (header .transactions ≤ 256) × (6 * header .rows ≤ length (now rows)) × (6 * header .transactions ≤ length (now transactions)) ⌝ }
+    requires { ⌜ Tables (header .locations) (now «congestion_weights») (now «congestion_real») × Tables (header .locations) (now «loss_weights») (now «loss_real») ⌝ }
+    requires { ⌜ Totals (now charged) 0 × Totals (now lost) 0 × Totals (now shares) 0 ⌝ }
+    ensures { λ r. ⌜ r ≡ bothRefusal header (now (rows .entry)) (now (transactions .entry)) ⌝ }
+    ensures { λ r. ⌜ (r ≡ 0 → BothAdded header (now (rows .entry)) (now (transactions .entry)) (now («congestion_weights» .entry)) (now («congestion_real» .entry)) (now (charged .exit))) ⌝ }
+    ensures { λ r. ⌜ (r ≡ 0 → BothAdded header (now (rows .entry)) (now (transactions .entry)) (now («loss_weights» .entry)) (now («loss_real» .entry)) (now (lost .exit))) ⌝ }
+    ensures { λ r. ⌜ (r ≡ 0 → Shared (rowsIn (now (rows .entry)) (header .rows)) (now (shares .exit))) ⌝ }
+{
+    let refusal = charge_rows(
+        header.participants,
+        header.locations,
+        rows,
+        header.rows,
+        congestion_weights,
+        congestion_real,
+        loss_weights,
+        loss_real,
+        charged,
+        lost,
+        shares,
+    );
+    if refusal != 0 {
+        return refusal;
+    }
+    charge_transactions(
+        header.participants,
+        header.locations,
+        transactions,
+        header.transactions,
+        congestion_weights,
+        congestion_real,
+        loss_weights,
+        loss_real,
+        charged,
+        lost,
+    )
+}
+
+// ---- prices
+
+// The tables of a price list whose day-ahead prices start at price j of a stretch and whose real-time prices start at price k.
+fn read_tables(prices: &[u8], j: usize, k: usize, weights: &mut [i64], real: &mut [i64])
+    requires { ⌜ Priced (now prices) (length (now weights)) j k × (length (now real) ≡ 12 * length (now weights)) ⌝ }
+    ensures { λ _. ⌜ now (weights .exit) ≡ tab (aheadWeight (pricesAt (now (prices .entry)) (length (now (weights .entry))) j k)) (length (now (weights .entry))) ⌝ }
+    ensures { λ _. ⌜ now (real .exit) ≡ pricesFrom (now (prices .entry)) k (length (now (real .entry))) ⌝ }
+{
+    exercise::read_prices(prices, j, weights);
+    exercise::read_prices(prices, k, real);
+    weigh(real, weights);
+}
+
+// The parts of a file: prices, rows and transactions. The tables are made in the lists that are lent for them.
+fn charge_priced(
+    header: Header,
+    prices: &[u8],
+    rows: &[u8],
+    transactions: &[u8],
+    congestion_weights: &mut [i64],
+    congestion_real: &mut [i64],
+    loss_weights: &mut [i64],
+    loss_real: &mut [i64],
+    charged: &mut [i64],
+    lost: &mut [i64],
+    shares: &mut [i64],
+) -> u32
+    requires { ⌜ Parts header (now prices) (now rows) (now transactions) ⌝ }
+    requires { ⌜ Space (header .locations) (now «congestion_weights») (now «congestion_real») × Space (header .locations) (now «loss_weights») (now «loss_real») ⌝ }
+    requires { ⌜ Totals (now charged) 0 × Totals (now lost) 0 × Totals (now shares) 0 ⌝ }
+    ensures { λ r. ⌜ r ≡ partsRefusal header (now (prices .entry)) (now (rows .entry)) (now (transactions .entry)) ⌝ }
+    ensures { λ r. ⌜ (r ≡ 0 → Charged (congestionIn header (now (prices .entry))) (rowsIn (now (rows .entry)) (header .rows)) (transactionsIn (now (transactions .entry)) (header .transactions)) (now (charged .exit))) ⌝ }
+    ensures { λ r. ⌜ (r ≡ 0 → Charged (lossIn header (now (prices .entry))) (rowsIn (now (rows .entry)) (header .rows)) (transactionsIn (now (transactions .entry)) (header .transactions)) (now (lost .exit))) ⌝ }
+    ensures { λ r. ⌜ (r ≡ 0 → Shared (rowsIn (now (rows .entry)) (header .rows)) (now (shares .exit))) ⌝ }
+{
+    let n = header.locations;
+    let refusal = exercise::prices_refusal(prices, 26 * n);
+    if refusal != 0 {
+        return refusal;
+    }
+    read_tables(prices, 0, n, congestion_weights, congestion_real);
+    read_tables(prices, 13 * n, 14 * n, loss_weights, loss_real);
+    charge_both(
+        header,
+        rows,
+        transactions,
+        congestion_weights,
+        congestion_real,
+        loss_weights,
+        loss_real,
+        charged,
+        lost,
+        shares,
+    )
+}
+
+// The same, with tables of its own.
+fn charge_parts(
+    header: Header,
+    prices: &[u8],
+    rows: &[u8],
+    transactions: &[u8],
+    charged: &mut [i64],
+    lost: &mut [i64],
+    shares: &mut [i64],
+) -> u32
+    requires { ⌜ Parts header (now prices) (now rows) (now transactions) ⌝ }
+    requires { ⌜ Totals (now charged) 0 × Totals (now lost) 0 × Totals (now shares) 0 ⌝ }
+    ensures { λ r. ⌜ r ≡ partsRefusal header (now (prices .entry)) (now (rows .entry)) (now (transactions .entry)) ⌝ }
+    ensures { λ r. ⌜ (r ≡ 0 → Charged (congestionIn header (now (prices .entry))) (rowsIn (now (rows .entry)) (header .rows)) (transactionsIn (now (transactions .entry)) (header .transactions)) (now (charged .exit))) ⌝ }
+    ensures { λ r. ⌜ (r ≡ 0 → Charged (lossIn header (now (prices .entry))) (rowsIn (now (rows .entry)) (header .rows)) (transactionsIn (now (transactions .entry)) (header .transactions)) (now (lost .exit))) ⌝ }
+    ensures { λ r. ⌜ (r ≡ 0 → Shared (rowsIn (now (rows .entry)) (header .rows)) (now (shares .exit))) ⌝ }
+{
+    let mut congestion_weights = [0i64; 64];
+    let mut congestion_real = [0i64; 768];
+    let mut loss_weights = [0i64; 64];
+    let mut loss_real = [0i64; 768];
+    let n = header.locations;
+    let m = 12 * n;
+    charge_priced(
+        header,
+        prices,
+        rows,
+        transactions,
+        &mut congestion_weights[..n],
+        &mut congestion_real[..m],
+        &mut loss_weights[..n],
+        &mut loss_real[..m],
+        charged,
+        lost,
+        shares,
+    )
+}
+
+// ---- the file
+
+// The exact charges and the shares of a file that passes the order to its length: the refusal from the prices on, or 0.
+fn charge_file(file: &[u8], charged: &mut [i64], lost: &mut [i64], shares: &mut [i64]) -> u32
+    requires { ⌜ throughLength (now file) ≡ 0 ⌝ }
+    requires { ⌜ Totals (now charged) 0 × Totals (now lost) 0 × Totals (now shares) 0 ⌝ }
+    ensures { λ r. ⌜ r ≡ fromPrices (now (file .entry)) ⌝ }
+    ensures { λ r. ⌜ (r ≡ 0 → Charged (congestionPrices (now (file .entry))) (rows (now (file .entry))) (transactions (now (file .entry))) (now (charged .exit))) ⌝ }
+    ensures { λ r. ⌜ (r ≡ 0 → Charged (lossPrices (now (file .entry))) (rows (now (file .entry))) (transactions (now (file .entry))) (now (lost .exit))) ⌝ }
+    ensures { λ r. ⌜ (r ≡ 0 → Shared (rows (now (file .entry))) (now (shares .exit))) ⌝ }
+{
+    let header = exercise::read_header(file);
+    let places = exercise::places_of(header);
+    let prices_at = places.prices;
+    let rows_at = places.rows;
+    let transactions_at = places.transactions;
+    let end = places.end;
+    charge_parts(
+        header,
+        &file[prices_at..rows_at],
+        &file[rows_at..transactions_at],
+        &file[transactions_at..end],
+        charged,
+        lost,
+        shares,
+    )
+}
+
+// An hour of a file that passes the order to its length, into lists as long as the participants.
+fn settle_whole(
+    file: &[u8],
+    congestion: &mut [i64],
+    loss: &mut [i64],
+    credit: &mut [i64],
+    net: &mut [i64],
+) -> u32
+    requires { ⌜ throughLength (now file) ≡ 0 ⌝ }
+    requires { ⌜ Outputs (participants (now file)) (now congestion) (now loss) (now credit) (now net) ⌝ }
+    ensures { λ r. ⌜ r ≡ wholeRefusal (now (file .entry)) ⌝ }
+    ensures { λ r. ⌜ now (congestion .exit) ≡ lent r (congestionCharges (now (file .entry))) (now (congestion .entry)) ⌝ }
+    ensures { λ r. ⌜ now (loss .exit) ≡ lent r (lossCharges (now (file .entry))) (now (loss .entry)) ⌝ }
+    ensures { λ r. ⌜ now (credit .exit) ≡ lent r (credits (now (file .entry))) (now (credit .entry)) ⌝ }
+    ensures { λ r. ⌜ now (net .exit) ≡ lent r (nets (now (file .entry))) (now (net .entry)) ⌝ }
+{
+    let mut charged = [0i64; 64];
+    let mut lost = [0i64; 64];
+    let mut shares = [0i64; 64];
+    let refusal = charge_file(file, &mut charged, &mut lost, &mut shares);
+    if refusal != 0 {
+        return refusal;
+    }
+    let n = congestion.len();
+    credits::pay(
+        &mut charged[..n],
+        &mut lost[..n],
+        &shares[..n],
+        congestion,
+        loss,
+        credit,
+        net,
+    )
+}
+
+// An hour of a file, settled into four lists of a number for each participant: congestion charge, loss charge, credit
+// and net, in cents.
+pub fn settle(
+    file: &[u8],
+    congestion: &mut [i64],
+    loss: &mut [i64],
+    credit: &mut [i64],
+    net: &mut [i64],
+) -> u32
+    ensures { λ r. ⌜ r ≡ hourRefusal (now (file .entry)) (length (now (congestion .entry))) (length (now (loss .entry))) (length (now (credit .entry))) (length (now (net .entry))) ⌝ }
+    ensures { λ r. ⌜ now (congestion .exit) ≡ lent r (congestionCharges (now (file .entry))) (now (congestion .entry)) ⌝ }
+    ensures { λ r. ⌜ now (loss .exit) ≡ lent r (lossCharges (now (file .entry))) (now (loss .entry)) ⌝ }
+    ensures { λ r. ⌜ now (credit .exit) ≡ lent r (credits (now (file .entry))) (now (credit .entry)) ⌝ }
+    ensures { λ r. ⌜ now (net .exit) ≡ lent r (nets (now (file .entry))) (now (net .entry)) ⌝ }
+{
+    let refusal = exercise::through_length(file);
+    if refusal != 0 {
+        return refusal;
+    }
+    let n = exercise::read_header(file).participants;
+    if congestion.len() != n {
+        return 1;
+    }
+    if loss.len() != n {
+        return 1;
+    }
+    if credit.len() != n {
+        return 1;
+    }
+    if net.len() != n {
+        return 1;
+    }
+    settle_whole(file, congestion, loss, credit, net)
+}
