@@ -6,3 +6,4 @@ pub mod Total
 pub mod Parts
 pub mod Paid
 pub mod Order
+pub mod Unique

@@ -1,14 +1,21 @@
 -- The contract of each call allows one answer and one content of each lent slice. Assumes nothing.
 -- `F.Post` is the `ensures` of F, over lifetimes, arguments, answer and what the lent slices hold at exit.
-use mathlib.Core.Path.{_≡_}
+use mathlib.Core.Path.{_≡_, subst}
 use Prim.Native.Nat.{ℕ}
 use contract.Lifetimes.{Lfts}
 use Rattle.ints.proofs.Unique.{unique}
-use Rattle.wunzelihle.proofs.wz_split.Reads as wz-split
 use Rattle.wunzelihle.proofs.wz_assign_load.Reads as wz-assign-load
+use Rattle.wunzelihle.proofs.wz_settle_hour.Reads as wz-settle-hour
+use Rattle.wunzelihle.proofs.wz_split.Reads as wz-split
 
 pub wz-split-unique : (κs : Lfts 2) (a : _) (r s : ℕ) (e f : _) → wz-split.Post κs a r e → wz-split.Post κs a s f → (r ≡ s) × (e .1 .1 .0 .now ≡ f .1 .1 .0 .now)
 wz-split-unique κs a r s e f p q = (unique (p .0) (q .0), unique (p .1) (q .1))
 
 pub wz-assign-load-unique : (κs : Lfts 7) (a : _) (r s : ℕ) (e f : _) → wz-assign-load.Post κs a r e → wz-assign-load.Post κs a s f → (r ≡ s) × (e .1 .1 .1 .1 .1 .1 .1 .1 .1 .0 .now ≡ f .1 .1 .1 .1 .1 .1 .1 .1 .1 .0 .now)
 wz-assign-load-unique κs a r s e f p q = (unique (p .0) (q .0), unique (p .1) (q .1))
+
+pub wz-settle-hour-unique : (κs : Lfts 5) (a : _) (r s : ℕ) (e f : _) → wz-settle-hour.Post κs a r e → wz-settle-hour.Post κs a s f
+    → (r ≡ s) × (e .1 .0 .now ≡ f .1 .0 .now) × (e .1 .1 .0 .now ≡ f .1 .1 .0 .now) × (e .1 .1 .1 .0 .now ≡ f .1 .1 .1 .0 .now) × (e .1 .1 .1 .1 .0 .now ≡ f .1 .1 .1 .1 .0 .now)
+wz-settle-hour-unique κs a r s e f p q =
+    let t : wz-settle-hour.Post κs a r f = subst (λ (n : ℕ). wz-settle-hour.Post κs a n f) (unique (q .0) (p .0)) q in
+    (unique (p .0) (q .0), unique (p .1 .0) (t .1 .0), unique (p .1 .1 .0) (t .1 .1 .0), unique (p .1 .1 .1 .0) (t .1 .1 .1 .0), unique (p .1 .1 .1 .1) (t .1 .1 .1 .1))

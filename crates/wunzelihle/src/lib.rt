@@ -2,14 +2,16 @@
 ghost use mathlib.Core.Path.{_≡_};
 ghost use mathlib.Core.Bool.{true};
 ghost use mathlib.Core.List.{_++_};
-ghost use Prim.Native.Nat.{_/_};
+ghost use Prim.Native.Nat.{_/_, _≤_};
 ghost use lib.ListN.{length, drop};
-ghost use Rattle.numbers.specs.Bytes.{numbers, encoded};
-ghost use Rattle.wunzelihle.specs.Split.{splitRefusal, splitOutcome};
-ghost use Rattle.wunzelihle.specs.Load.{listed, AllListed, givenBytes, loadRefusal, loadOutcome};
 ghost use Rattle.ints.specs.Refusal.{lent};
+ghost use Rattle.numbers.specs.Bytes.{numbers, encoded};
 ghost use Rattle.load.specs.Load.{assignment};
 ghost use Rattle.load.specs.Order.{refusal};
+ghost use Rattle.hour.specs.Charges.{congestionCharges, lossCharges, credits, nets};
+ghost use Rattle.wunzelihle.specs.Split.{splitRefusal, splitOutcome};
+ghost use Rattle.wunzelihle.specs.Load.{listed, AllListed, givenBytes, loadRefusal, loadOutcome};
+ghost use Rattle.wunzelihle.specs.Hour.{settleRefusal, hourly};
 
 #[no_mangle]
 pub extern "C" fn wz_split(amount: i64, shares: &[u8], parts: &mut [u8]) -> u32
@@ -161,4 +163,85 @@ fn assign_listed(
     }
     numbers::write_all(&made[..m], out);
     0
+}
+
+// How many numbers of an hour a slice of so many bytes can hold.
+fn hourly_count(bytes: usize) -> usize
+    ensures { λ r. ⌜ (r ≡ hourly bytes) × (r ≤ 64) ⌝ }
+{
+    if is_list(bytes, 64) {
+        return bytes / 8;
+    }
+    0
+}
+
+// An hour settled into four lists, and these into slices.
+fn settle_into(
+    file: &[u8],
+    congestion: &mut [u8],
+    loss: &mut [u8],
+    credit: &mut [u8],
+    net: &mut [u8],
+    congestion_cents: &mut [i64],
+    loss_cents: &mut [i64],
+    credit_cents: &mut [i64],
+    net_cents: &mut [i64],
+) -> u32
+    requires { ⌜ (length (now «congestion_cents») ≡ hourly (length (now congestion))) × (length (now «loss_cents») ≡ hourly (length (now loss))) × (length (now «credit_cents») ≡ hourly (length (now credit))) × (length (now «net_cents») ≡ hourly (length (now net))) ⌝ }
+    ensures { λ r. ⌜ r ≡ settleRefusal (now (file .entry)) (length (now (congestion .entry))) (length (now (loss .entry))) (length (now (credit .entry))) (length (now (net .entry))) ⌝ }
+    ensures { λ r. ⌜ now (congestion .exit) ≡ lent r (encoded (congestionCharges (now (file .entry)))) (now (congestion .entry)) ⌝ }
+    ensures { λ r. ⌜ now (loss .exit) ≡ lent r (encoded (lossCharges (now (file .entry)))) (now (loss .entry)) ⌝ }
+    ensures { λ r. ⌜ now (credit .exit) ≡ lent r (encoded (credits (now (file .entry)))) (now (credit .entry)) ⌝ }
+    ensures { λ r. ⌜ now (net .exit) ≡ lent r (encoded (nets (now (file .entry)))) (now (net .entry)) ⌝ }
+{
+    let refusal = hour::settle(
+        file,
+        congestion_cents,
+        loss_cents,
+        credit_cents,
+        net_cents,
+    );
+    if refusal != 0 {
+        return refusal;
+    }
+    numbers::write_all(congestion_cents, congestion);
+    numbers::write_all(loss_cents, loss);
+    numbers::write_all(credit_cents, credit);
+    numbers::write_all(net_cents, net);
+    0
+}
+
+#[no_mangle]
+pub extern "C" fn wz_settle_hour(
+    file: &[u8],
+    congestion: &mut [u8],
+    loss: &mut [u8],
+    credit: &mut [u8],
+    net: &mut [u8],
+) -> u32
+    ensures { λ r. ⌜ r ≡ settleRefusal (now (file .entry)) (length (now (congestion .entry))) (length (now (loss .entry))) (length (now (credit .entry))) (length (now (net .entry))) ⌝ }
+    ensures { λ r. ⌜ now (congestion .exit) ≡ lent r (encoded (congestionCharges (now (file .entry)))) (now (congestion .entry)) ⌝ }
+    ensures { λ r. ⌜ now (loss .exit) ≡ lent r (encoded (lossCharges (now (file .entry)))) (now (loss .entry)) ⌝ }
+    ensures { λ r. ⌜ now (credit .exit) ≡ lent r (encoded (credits (now (file .entry)))) (now (credit .entry)) ⌝ }
+    ensures { λ r. ⌜ now (net .exit) ≡ lent r (encoded (nets (now (file .entry)))) (now (net .entry)) ⌝ }
+{
+    let mut congestion_cents = [0i64; 64];
+    let mut loss_cents = [0i64; 64];
+    let mut credit_cents = [0i64; 64];
+    let mut net_cents = [0i64; 64];
+    let c = hourly_count(congestion.len());
+    let l = hourly_count(loss.len());
+    let k = hourly_count(credit.len());
+    let n = hourly_count(net.len());
+    settle_into(
+        file,
+        congestion,
+        loss,
+        credit,
+        net,
+        &mut congestion_cents[..c],
+        &mut loss_cents[..l],
+        &mut credit_cents[..k],
+        &mut net_cents[..n],
+    )
 }

@@ -1,22 +1,22 @@
 -- `wunzelihle::assign_listed` meets its contract. Assumes nothing.
-use Rattle.wunzelihle.proofs.Lists.{is-whole, fits, front-is, front-long, front-length}
-use Rattle.wunzelihle.specs.Load.{givenBytes}
-use Rattle.load.proofs.Assigned.{length-assignment}
-use Rattle.load.specs.Order.{refusal}
-use Rattle.load.specs.Load.{Given, given, assignment}
-use Rattle.numbers.specs.Bytes.{numbers, encoded}
-use Rattle.ints.proofs.Refusals.{lent-result, kept}
-use mir.Facts.{toZ-ofZ}
-use mir.Val.{toZ, ofZ}
-use mir.Syntax.{w64}
-use lib.Seq.{take-at, length-take-le}
-use lib.ListN.{length, take, drop, replicate, length-append}
-use lib.IntN.{ℤ, pos}
-use native.Mathlib.Omega.{arith}
-use Prim.Native.Nat.{ℕ, _/_, _≤_}
-use mathlib.Core.List.{List, _++_}
 use mathlib.Core.Path.{_≡_, refl, sym, ap, ap₂, _∙_}
+use mathlib.Core.List.{List, _++_}
+use Prim.Native.Nat.{ℕ, _/_, _≤_}
+use native.Mathlib.Omega.{arith}
+use lib.IntN.{ℤ, pos}
+use lib.ListN.{length, take, drop, replicate, length-append}
+use lib.Seq.{take-at, length-take-le}
+use mir.Syntax.{w64}
+use mir.Val.{toZ, ofZ}
+use mir.Facts.{toZ-ofZ}
 use borrow.Author.Needs.{needs}
+use Rattle.ints.proofs.Refusals.{lent-result, kept}
+use Rattle.numbers.specs.Bytes.{numbers, encoded}
+use Rattle.load.specs.Load.{Given, given, assignment}
+use Rattle.load.specs.Order.{refusal}
+use Rattle.load.proofs.Assigned.{length-assignment}
+use Rattle.wunzelihle.specs.Load.{givenBytes}
+use Rattle.wunzelihle.proofs.Lists.{is-whole, fits, front-is, front-long, front-length}
 use Rattle.wunzelihle.proofs.assign_listed.Statement.{statement}
 use Rattle.wunzelihle.proofs.assign_listed.Tie as tie
 
