@@ -174,6 +174,96 @@ uint32_t wz_assign_load(int64_t metered, int64_t distributor,
                         const uint8_t *tranches, size_t tranches_len,
                         uint8_t *out, size_t out_len);
 
+/*
+ * wz_settle_hour: settle one market hour from an exercise file.
+ *
+ *   file        the file as its own bytes, laid out below; file_len is 83 to
+ *               18,821
+ *   congestion  written: each participant's congestion charge
+ *   loss        written: each participant's loss charge
+ *   credit      written: each participant's credit from the loss surplus
+ *   net         written: each participant's two charges less its credit
+ *
+ * The four lists are in cents and have a number for each participant of the
+ * file, 1 to 64, so each length is 8 to 512. A charge below 0 is paid out, and
+ * a credit below 0 is taken.
+ *
+ * The file is packed, the most significant bit first, without gaps:
+ *
+ *   header       40 bits: participants less 1 (6), locations less 1 (6), rows
+ *                (12), transactions (10), spare (6); up to 64, 64, 2,048 and
+ *                256 of them
+ *   prices       24 bits each, two's complement, in mills per MWh, -5,000,000
+ *                to 5,000,000: congestion day-ahead for each location, then
+ *                congestion real time interval by interval, then loss the same
+ *                way
+ *   row          48 bits: market (1), kind (3), interval (4), participant (6),
+ *                location (6), kW (25), spare (3)
+ *   transaction  48 bits: market (1), interval (4), participant (6), source
+ *                (6), sink (6), kW (25)
+ *
+ * Spare bits are 0, kW are 0 to 20,000,000. Market 0 is day-ahead, where the
+ * interval is 0; market 1 is real time, intervals 0 to 11. Kinds 0 (load), 2
+ * (export) and 4 (decrement bid) withdraw, kinds 1 (generation), 3 (import)
+ * and 5 (increment offer) inject; 4 and 5 are day-ahead only.
+ *
+ * Day-ahead a participant pays, at each location, its withdrawals less its
+ * injections, times the day-ahead price. In real time it pays, at each location
+ * and in each of the 12 intervals, [(A - B) - (D - E)] times C, over 12, where
+ * A, D are its real-time and B, E its day-ahead withdrawals and injections and
+ * C is the interval's price; the day-ahead kW stand in every interval, also
+ * where no real-time row does. A transaction costs its kW times the price at
+ * its sink less the price at its source; in real time, in each interval and at
+ * its prices over 12, only the excess over the participant's own day-ahead kW
+ * of the same path counts, and a shortfall is paid back. Rows alike add up.
+ * Congestion and loss use the same rule with different prices. A participant's
+ * exact total of either is rounded once, to the nearest cent, halves away from
+ * zero.
+ *
+ * The surplus is the sum of all rounded loss charges. It is split, as wz_split
+ * does, over the participants by the kW of their real-time load and exports
+ * (rows of kinds 0 and 2), added up over the rows. So loss charges and credits
+ * total the same cents.
+ *
+ *   Document 01's exercise, of 2 participants, 2 locations and 3 rows, gives
+ *   congestion 0, 0; loss 1000, 390; credit 927, 463; net 73, -73.
+ *
+ * Refusals, in their order:
+ *
+ *   WZ_FILE       the file has less than 5 bytes
+ *   WZ_FILE       a spare bit of the header is set
+ *   WZ_LENGTH     the header tells of more than 2,048 rows or 256 transactions
+ *   WZ_FILE       the file is shorter or longer than its header tells
+ *   WZ_LENGTH     congestion, loss, credit or net hasn't eight bytes for each
+ *                 participant
+ *   WZ_RANGE      a price is outside its range
+ *
+ *   then of each row in turn
+ *   WZ_KIND       its kind is 6 or 7, or is 4 or 5 in real time; or its
+ *                 interval isn't 0 day-ahead, or is above 11 in real time
+ *   WZ_IDENTITY   its participant or location is none of the file's
+ *   WZ_RANGE      its kW are above 20,000,000
+ *   WZ_FILE       a spare bit of it is set
+ *
+ *   then of each transaction in turn
+ *   WZ_KIND       its interval isn't 0 day-ahead, or is above 11 in real time
+ *   WZ_IDENTITY   its participant, source or sink is none of the file's
+ *   WZ_RANGE      its kW are above 20,000,000
+ *
+ *   WZ_SURPLUS    the surplus is below -1,000,000,000 or above 1,000,000,000
+ *                 cents; or a participant's real-time load and exports add up
+ *                 to more than 4,000,000,000 kW, whatever the surplus
+ *   WZ_NO_SHARES  the surplus isn't 0, and everybody's real-time load and
+ *                 exports add up to 0
+ *
+ * Stack: at most 18 KB.
+ */
+uint32_t wz_settle_hour(const uint8_t *file, size_t file_len,
+                        uint8_t *congestion, size_t congestion_len,
+                        uint8_t *loss, size_t loss_len,
+                        uint8_t *credit, size_t credit_len,
+                        uint8_t *net, size_t net_len);
+
 #ifdef __cplusplus
 }
 #endif

@@ -17,7 +17,7 @@ times zero s = []
 times (suc n) s = s ++ times n s
 
 -- "The file is 04 10 03 00 00; 78 zero bytes; 00 00 78 00 02 58 thirteen times; 80 00 10 18 6A 00, 90 04 00 0D 6D 80, A0 04 10 0C 35 00"
-abbrev statement : List ℕ
+abbrev pub statement : List ℕ
 statement =
     (0x04 ∷ 0x10 ∷ 0x03 ∷ 0x00 ∷ 0x00 ∷ [])
     ++ times 78 (0x00 ∷ [])

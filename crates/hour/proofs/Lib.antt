@@ -6,4 +6,5 @@ pub mod Total
 pub mod Parts
 pub mod Paid
 pub mod Order
+pub mod Theorems
 pub mod Unique

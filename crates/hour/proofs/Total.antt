@@ -5,31 +5,41 @@ use Prim.Native.Nat.{ℕ, _*_, _<_}
 use lib.Dec.{eqb}
 use lib.IntN.{ℤ, pos, _+ℤ_, _-ℤ_, _*ℤ_}
 use lib.ListN.{drop}
-use Rattle.ints.specs.Every.{Every}
+use Rattle.ints.specs.Every.{Every, owed}
 use Rattle.ints.specs.Refusal.{pick}
 use Rattle.ints.specs.Table.{_at_, tab}
 use Rattle.ints.proofs.Adding.{owed-ext}
 use Rattle.ints.proofs.Gather.{every-map, every-tab}
 use Rattle.ints.proofs.Tables.{getD-tab}
 use Rattle.ints.proofs.Turns.{then-none, turn-none}
-use Rattle.rows.specs.Row.{rowAt, rowsIn, rowRefusalAt}
+use Rattle.rows.specs.Row.{rowAt, rowsIn, rowRefusalAt, rowsRefusal}
 use Rattle.rows.specs.Tested.{RowTested, TransactionTested}
-use Rattle.rows.specs.Transaction.{transactionAt, transactionsIn, transactionRefusalAt}
+use Rattle.rows.specs.Transaction.{transactionAt, transactionsIn, transactionRefusalAt, transactionsRefusal}
 use Rattle.rows.specs.declared.Row.{Row}
 use Rattle.rows.specs.declared.Transaction.{Transaction}
 use Rattle.rows.proofs.Tested.{row-at-tested, transaction-at-tested}
 use Rattle.exercise.specs.declared.Header.{Header}
 use Rattle.tariff.specs.Parts.{sign, aheadWeight, weight, weightIn, rowPart, transactionPart}
-use Rattle.tariff.specs.Tariff.{Prices, priceList}
+use Rattle.tariff.specs.Tariff.{Prices, priceList, charge}
 use Rattle.tariff.proofs.Theorem.{same}
 use Rattle.hour.specs.Given.{partIn, pathPartIn, bothRefusal, BothAdded, Charged}
 
 -- every row and transaction of a stretch without a refusal has been tested
-pub every-row : (participants locations : ℕ) (s : List ℕ) (n : ℕ) → ((i : ℕ) → i < n → rowRefusalAt participants locations s i ≡ 0) → Every (RowTested participants locations) (rowsIn s n)
+every-row : (participants locations : ℕ) (s : List ℕ) (n : ℕ) → ((i : ℕ) → i < n → rowRefusalAt participants locations s i ≡ 0) → Every (RowTested participants locations) (rowsIn s n)
 every-row participants locations s n h = every-tab (RowTested participants locations) (rowAt s) n (λ i l. row-at-tested participants locations s i (h i l))
 
-pub every-transaction : (participants locations : ℕ) (s : List ℕ) (n : ℕ) → ((i : ℕ) → i < n → transactionRefusalAt participants locations s i ≡ 0) → Every (TransactionTested participants locations) (transactionsIn s n)
+every-transaction : (participants locations : ℕ) (s : List ℕ) (n : ℕ) → ((i : ℕ) → i < n → transactionRefusalAt participants locations s i ≡ 0) → Every (TransactionTested participants locations) (transactionsIn s n)
 every-transaction participants locations s n h = every-tab (TransactionTested participants locations) (transactionAt s) n (λ i l. transaction-at-tested participants locations s i (h i l))
+
+module _ (h : Header) (rows transactions : List ℕ) (none : bothRefusal h rows transactions ≡ 0) where
+  accepted : (rowsRefusal (h .participants) (h .locations) rows (h .rows) ≡ 0) × (transactionsRefusal (h .participants) (h .locations) transactions (h .transactions) ≡ 0)
+  accepted = then-none (rowsRefusal (h .participants) (h .locations) rows (h .rows)) (transactionsRefusal (h .participants) (h .locations) transactions (h .transactions)) none
+
+  pub rows-passed : Every (RowTested (h .participants) (h .locations)) (rowsIn rows (h .rows))
+  rows-passed = every-row (h .participants) (h .locations) rows (h .rows) (turn-none _ (h .rows) (accepted .0))
+
+  pub transactions-passed : Every (TransactionTested (h .participants) (h .locations)) (transactionsIn transactions (h .transactions))
+  transactions-passed = every-transaction (h .participants) (h .locations) transactions (h .transactions) (turn-none _ (h .transactions) (accepted .1))
 
 module _ (h : Header) (ahead later weights real : List ℤ) (e : weights ≡ tab (aheadWeight (priceList (h .locations) ahead later)) (h .locations)) (f : real ≡ later) where
   abbrev prices : Prices
@@ -52,20 +62,17 @@ module _ (h : Header) (ahead later weights real : List ℤ) (e : weights ≡ tab
       ap (λ (w : ℤ). pos (t .kw .0) *ℤ w)
       (ap₂ _-ℤ_ (weight-is (t .market) (t .interval) (t .sink) (q .sink)) (weight-is (t .market) (t .interval) (t .source) (q .source)))
 
-  -- so the totals are the charges
-  pub charged : (rows transactions : List ℕ) {totals : List ℤ} → bothRefusal h rows transactions ≡ 0 → BothAdded h rows transactions weights real totals
-      → Charged prices (rowsIn rows (h .rows)) (transactionsIn transactions (h .transactions)) totals
-  charged rows transactions none added =
-      let accepted = then-none _ _ none in
-      let d = every-row (h .participants) (h .locations) rows (h .rows) (turn-none _ (h .rows) (accepted .0)) in
-      let t = every-transaction (h .participants) (h .locations) transactions (h .transactions) (turn-none _ (h .transactions) (accepted .1)) in
-      record {
-        each = λ p.
-            added .each p
-            ∙ ap₂ _+ℤ_
-            (owed-ext (λ r. r .participant) (partIn weights real (h .locations)) (rowPart prices) part-is (rowsIn rows (h .rows)) d p)
-            (owed-ext (λ t. t .participant) (pathPartIn weights real (h .locations)) (transactionPart prices) path-part-is (transactionsIn transactions (h .transactions)) t p)
-            ∙ same prices (rowsIn rows (h .rows)) (transactionsIn transactions (h .transactions)) p
-            (every-map (λ r q. record { timed = q .timed; location = q .location }) (rowsIn rows (h .rows)) d)
-            (every-map (λ t q. record { timed = q .timed; source = q .source; sink = q .sink }) (transactionsIn transactions (h .transactions)) t);
-      }
+  -- so they add up to the charge
+  module _ (rows transactions : List ℕ) (none : bothRefusal h rows transactions ≡ 0) where
+    pub sums-to : (p : ℕ) → owed (λ r. r .participant) (partIn weights real (h .locations)) (rowsIn rows (h .rows)) p +ℤ owed (λ t. t .participant) (pathPartIn weights real (h .locations)) (transactionsIn transactions (h .transactions)) p
+        ≡ charge prices (rowsIn rows (h .rows)) (transactionsIn transactions (h .transactions)) p
+    sums-to p =
+        ap₂ _+ℤ_
+        (owed-ext (λ r. r .participant) (partIn weights real (h .locations)) (rowPart prices) part-is (rowsIn rows (h .rows)) (rows-passed h rows transactions none) p)
+        (owed-ext (λ t. t .participant) (pathPartIn weights real (h .locations)) (transactionPart prices) path-part-is (transactionsIn transactions (h .transactions)) (transactions-passed h rows transactions none) p)
+        ∙ same prices (rowsIn rows (h .rows)) (transactionsIn transactions (h .transactions)) p
+        (every-map (λ r q. record { timed = q .timed; location = q .location }) (rowsIn rows (h .rows)) (rows-passed h rows transactions none))
+        (every-map (λ t q. record { timed = q .timed; source = q .source; sink = q .sink }) (transactionsIn transactions (h .transactions)) (transactions-passed h rows transactions none))
+
+    pub charged : {totals : List ℤ} → BothAdded h rows transactions weights real totals → Charged prices (rowsIn rows (h .rows)) (transactionsIn transactions (h .transactions)) totals
+    charged added = record { each = λ p. added .each p ∙ sums-to p }

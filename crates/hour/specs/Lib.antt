@@ -2,3 +2,4 @@ pub mod Share
 pub mod Given
 pub mod Charges
 pub mod Order
+pub mod Cases

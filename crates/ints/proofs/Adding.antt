@@ -104,3 +104,13 @@ module _ {A : Type 0} (owner : A → ℕ) (f : A → ℤ) (g : ℕ → A) (first
   -- the loop's end
   pub adding-done : {before totals : List ℤ} {i : ℕ} → Adding before i totals → (n : ℕ) → i ≡ n → Added owner f (tab g n) before totals
   adding-done {before} {totals} a n e = subst (λ (k : ℕ). Added owner f (tab g k) before totals) e (a .sum)
+
+-- what is owed is within as many times the bound as there are things
+pub owed-within : {A : Type 0} {P : A → Type 0} (owner : A → ℕ) (f : A → ℤ) (k : ℕ) → ((x : A) → P x → Within (f x) k) → (xs : List A) → Every P xs → (p : ℕ) → Within (owed owner f xs p) (length xs * k)
+unfolding owed Σℤ
+owed-within owner f k h [] e p = w-up (w-lit {x = pos 0} {k = 0} tt) (omega arith)
+owed-within {P = P} owner f k h (x ∷ xs) e p = w-up (w-add (chosen (eqb (owner x) p)) (owed-within owner f k h xs (e .1) p)) (omega arith)
+  where
+    chosen : (b : Bool) → Within (only b (f x)) k
+    chosen true = h x (e .0)
+    chosen false = w-up (w-lit {x = pos 0} {k = 0} tt) (omega arith)

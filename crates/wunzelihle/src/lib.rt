@@ -194,13 +194,7 @@ fn settle_into(
     ensures { λ r. ⌜ now (credit .exit) ≡ lent r (encoded (credits (now (file .entry)))) (now (credit .entry)) ⌝ }
     ensures { λ r. ⌜ now (net .exit) ≡ lent r (encoded (nets (now (file .entry)))) (now (net .entry)) ⌝ }
 {
-    let refusal = hour::settle(
-        file,
-        congestion_cents,
-        loss_cents,
-        credit_cents,
-        net_cents,
-    );
+    let refusal = hour::settle(file, congestion_cents, loss_cents, credit_cents, net_cents);
     if refusal != 0 {
         return refusal;
     }

@@ -102,12 +102,19 @@ returns-2 c = let w4 = c .before .before in
     let l = w1 .before .before .before in
     let t = settled l in
     let e = t .settle .ensures .1 in
-    let z = l .if1 .left in
-    (sym z ∙ answer t,
-    (w1 .write-all .ensures ∙ ap encoded (e .0 ∙ lent-result _ _ _ z),
-    (w2 .write-all2 .ensures ∙ ap encoded (e .1 .0 ∙ lent-result _ _ _ z),
-    (w3 .write-all3 .ensures ∙ ap encoded (e .1 .1 .0 ∙ lent-result _ _ _ z),
-    w4 .write-all4 .ensures ∙ ap encoded (e .1 .1 .1 ∙ lent-result _ _ _ z)))))
+    let z = l .if1 .left in (
+      sym z ∙ answer t,
+      (
+        w1 .write-all .ensures ∙ ap encoded (e .0 ∙ lent-result _ _ _ z),
+        (
+          w2 .write-all2 .ensures ∙ ap encoded (e .1 .0 ∙ lent-result _ _ _ z),
+          (
+            w3 .write-all3 .ensures ∙ ap encoded (e .1 .1 .0 ∙ lent-result _ _ _ z),
+            w4 .write-all4 .ensures ∙ ap encoded (e .1 .1 .1 ∙ lent-result _ _ _ z),
+          ),
+        ),
+      ),
+    )
 
 pub settle-into-spec : {M : Type 1} → statement M
 settle-into-spec =

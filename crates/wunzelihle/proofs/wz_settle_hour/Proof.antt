@@ -49,11 +49,12 @@ slice-aggregate-settle-into-4 : tie.Need-slice-aggregate-settle-into-4
 slice-aggregate-settle-into-4 c = sym (front (c .before .before .before .before .before .before .before .before .hourly-count4 .ensures .1))
 
 settle-into-requires : tie.Need-settle-into-requires
-settle-into-requires c κs = let n = c .before .before .before .before .before .before .before .before in
-    (front (n .before .before .before .hourly-count .ensures .1) ∙ n .before .before .before .hourly-count .ensures .0,
-    front (n .before .before .hourly-count2 .ensures .1) ∙ n .before .before .hourly-count2 .ensures .0,
-    front (n .before .hourly-count3 .ensures .1) ∙ n .before .hourly-count3 .ensures .0,
-    front (n .hourly-count4 .ensures .1) ∙ n .hourly-count4 .ensures .0)
+settle-into-requires c κs = let n = c .before .before .before .before .before .before .before .before in (
+  front (n .before .before .before .hourly-count .ensures .1) ∙ n .before .before .before .hourly-count .ensures .0,
+  front (n .before .before .hourly-count2 .ensures .1) ∙ n .before .before .hourly-count2 .ensures .0,
+  front (n .before .hourly-count3 .ensures .1) ∙ n .before .hourly-count3 .ensures .0,
+  front (n .hourly-count4 .ensures .1) ∙ n .hourly-count4 .ensures .0,
+)
 
 same-length : tie.Need-same-length
 same-length c = search needs
