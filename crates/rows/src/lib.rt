@@ -48,12 +48,26 @@ pub fn three_at(s: &[u8], k: usize) -> u64
     65536 * ints::wide(s[k]) + 256 * ints::wide(s[k + 1]) + ints::wide(s[k + 2])
 }
 
-// The six bytes from k on, the first highest.
+// The two, four and six bytes from k on, the first highest. In twos, so that they are read as words.
+fn two_at(s: &[u8], k: usize) -> u64
+    requires { ⌜ k + 2 ≤ length (now s) ⌝ }
+    ensures { λ r. ⌜ r ≡ bytesAt (now (s .entry)) k 2 × (r < 65536) ⌝ }
+{
+    256 * ints::wide(s[k]) + ints::wide(s[k + 1])
+}
+
+fn four_at(s: &[u8], k: usize) -> u64
+    requires { ⌜ k + 4 ≤ length (now s) ⌝ }
+    ensures { λ r. ⌜ r ≡ bytesAt (now (s .entry)) k 4 × (r < 4294967296) ⌝ }
+{
+    65536 * two_at(s, k) + two_at(s, k + 2)
+}
+
 fn six_at(s: &[u8], k: usize) -> u64
     requires { ⌜ k + 6 ≤ length (now s) ⌝ }
     ensures { λ r. ⌜ r ≡ bytesAt (now (s .entry)) k 6 ⌝ }
 {
-    16777216 * three_at(s, k) + three_at(s, k + 3)
+    65536 * four_at(s, k) + two_at(s, k + 4)
 }
 
 // Whether the market has the kind, and the interval.
