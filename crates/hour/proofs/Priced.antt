@@ -1,60 +1,102 @@
--- Price lists that are read from a stretch of prices, and the tables that are made of them. Assumes nothing.
-use mathlib.Core.Path.{_≡_, refl, sym, ap, ap₂, _∙_, subst}
+-- All prices of a stretch, read into one table: tested there, and cut into the day-ahead and real-time prices of congestion and of losses. Assumes nothing.
+use mathlib.Core.Path.{_≡_, sym, ap, ap₂, _∙_, subst}
+use mathlib.Core.Bool.{Bool, true, false}
 use mathlib.Core.List.{List}
-use Prim.Native.Nat.{ℕ, _*_, _≤_}
+use Prim.Native.Nat.{ℕ, _+_, _*_, _-_, _≤_, _<_}
 use native.Mathlib.Omega.{arith}
-use lib.IntN.{ℤ}
-use lib.ListN.{length}
+use lib.IntN.{ℤ, pos, negℤ}
+use lib.ListN.{length, take, drop, length-drop}
+use lib.Seq.{length-take-le, getD-take, getD-drop, ext-getD}
+use Rattle.ints.specs.Number.{between}
 use Rattle.ints.specs.Range.{InRange}
-use Rattle.ints.specs.Table.{tab}
-use Rattle.ints.proofs.Tables.{length-tab}
-use Rattle.exercise.specs.Price.{pricesFrom}
+use Rattle.ints.specs.Refusal.{unless}
+use Rattle.ints.specs.Table.{_at_, tab, all}
+use Rattle.ints.specs.Turn.{inTurn}
+use Rattle.ints.proofs.Eachs.{turn-all}
+use Rattle.ints.proofs.Ranges.{cut-range}
+use Rattle.ints.proofs.Tables.{length-tab, getD-tab, tab-ext}
+use Rattle.rows.specs.declared.Row.{Row}
+use Rattle.rows.specs.declared.Transaction.{Transaction}
+use Rattle.exercise.specs.Price.{priceAt, pricesFrom, priceRefusal, pricesRefusal}
 use Rattle.exercise.proofs.Prices.{prices-within}
-use Rattle.tariff.specs.Parts.{aheadWeight}
-use Rattle.tariff.specs.Tariff.{priceList}
-use Rattle.hour.specs.Given.{Tables, Space, pricesAt, Priced}
-use Rattle.hour.proofs.Weights.{tables}
+use Rattle.tariff.specs.Tariff.{Prices, priceList}
+use Rattle.hour.specs.Given.{Listed, congestionCut, lossCut, Charged}
 
-length-from : (prices : List ℕ) (j n : ℕ) → length (pricesFrom prices j n) ≡ n
-length-from prices j n = length-tab _ n
+-- the numbers from one place to another
+between-places : (table : List ℤ) (j m to : ℕ) → to ≡ j + m → take (to - j) (drop j table) ≡ take m (drop j table)
+between-places table j m to e = let d : to - j ≡ m = omega arith in ap (λ (n : ℕ). take n (drop j table)) d
 
-module _ (prices : List ℕ) (locations j k : ℕ) (h : Priced prices locations j k) (ahead real : List ℤ) (m : ℕ) (whole : m ≡ 12 * locations) (e : ahead ≡ pricesFrom prices j locations) (f : real ≡ pricesFrom prices k m) where
-  ahead-length : length ahead ≡ locations
-  ahead-length = ap length e ∙ length-from prices j locations
+-- ---- the test
 
-  twelve : length real ≡ 12 * length ahead
-  twelve = ap length f ∙ length-from prices k m ∙ whole ∙ ap (λ (n : ℕ). 12 * n) (sym ahead-length)
+abbrev pub inRange : ℤ → Bool
+inRange = between (negℤ (pos 5000000)) (pos 5000000)
 
-  ahead-range : InRange ahead 5000000
-  ahead-range = subst (λ (xs : List ℤ). InRange xs 5000000) (sym e) (record { each = prices-within prices (26 * locations) (h .accepted) j locations (h .ahead) })
+module _ (prices : List ℕ) (n : ℕ) (table : List ℤ) (e : table ≡ pricesFrom prices 0 n) where
+  from-start : table ≡ tab (priceAt prices) n
+  from-start = e ∙ tab-ext (λ i. priceAt prices (0 + i)) (priceAt prices) n (λ i _. ap (priceAt prices) (omega arith))
 
-  real-range : InRange real 5000000
-  real-range =
-      subst (λ (xs : List ℤ). InRange xs 5000000) (sym (f ∙ ap (pricesFrom prices k) whole))
-      (record { each = prices-within prices (26 * locations) (h .accepted) k (12 * locations) (h .real) })
+  pub table-refusal : unless (all inRange table) 2 0 ≡ pricesRefusal prices n
+  unfolding priceRefusal
+  table-refusal = ap (λ (xs : List ℤ). unless (all inRange xs) 2 0) from-start ∙ sym (turn-all inRange (priceAt prices) 1 n)
 
-  -- what weighing asks, and gives
-  pub to-weigh : (length ahead ≤ 64) × (length real ≡ 12 * length ahead) × InRange real 5000000 × InRange ahead 5000000
-  to-weigh = (omega (arith, ahead-length, h .few), twelve, real-range, ahead-range)
+  -- ---- the cuts
 
-  pub weighed : tab (aheadWeight (priceList (length ahead) ahead real)) (length ahead) ≡ tab (aheadWeight (pricesAt prices locations j k)) locations
-  weighed =
-      ap (λ (l : ℕ). tab (aheadWeight (priceList l ahead real)) l) ahead-length
-      ∙ ap₂ (λ (a r : List ℤ). tab (aheadWeight (priceList locations a r)) locations) e (f ∙ ap (pricesFrom prices k) whole)
+  table-length : length table ≡ n
+  table-length = ap length e ∙ length-tab (λ i. priceAt prices (0 + i)) n
 
-  pub their-tables : (weights : List ℤ) → weights ≡ tab (aheadWeight (pricesAt prices locations j k)) locations → Tables locations weights real
-  their-tables weights w =
-      subst (λ (l : ℕ). Tables l weights real) ahead-length
-      (tables ahead real (omega (arith, ahead-length, h .few)) twelve ahead-range real-range weights (w ∙ sym weighed))
+  pub cut : (j m : ℕ) → j + m ≤ n → take m (drop j table) ≡ pricesFrom prices j m
+  cut j m h =
+      ext-getD (pos 0) (take m (drop j table)) (pricesFrom prices j m) (long ∙ sym (length-tab (λ i. priceAt prices (j + i)) m))
+      (λ i l. let k : i < m = omega (arith, long) in
+      getD-take m (drop j table) i (pos 0) k ∙ getD-drop j table i (pos 0)
+      ∙ ap (λ (xs : List ℤ). xs at (j + i)) from-start ∙ getD-tab (priceAt prices) (pos 0) n (j + i) (omega arith)
+      ∙ sym (getD-tab (λ i. priceAt prices (j + i)) (pos 0) m i k))
+    where
+      long : length (take m (drop j table)) ≡ m
+      long = length-take-le m (drop j table) (omega (arith, length-drop j table, table-length))
 
--- in lists that were lent for them: the tables of a price list of so many locations
-module _ (prices : List ℕ) (locations j k : ℕ) (h : Priced prices locations j k) {space-weights space-real : List ℤ} (space : Space locations space-weights space-real) {weights real : List ℤ}
-    (w : weights ≡ tab (aheadWeight (pricesAt prices (length space-weights) j k)) (length space-weights)) (r : real ≡ pricesFrom prices k (length space-real)) where
-  pub weights-are : weights ≡ tab (aheadWeight (pricesAt prices locations j k)) locations
-  weights-are = w ∙ ap (λ (l : ℕ). tab (aheadWeight (pricesAt prices l j k)) l) (space .weights-length)
+-- ---- the price lists of a table
 
-  pub real-are : real ≡ pricesFrom prices k (12 * locations)
-  real-are = r ∙ ap (pricesFrom prices k) (space .real-length)
+module _ (n : ℕ) (few : n ≤ 64) (table : List ℤ) (whole : length table ≡ 26 * n) (range : InRange table 5000000) where
+  long : (j m : ℕ) → j + m ≤ 26 * n → length (take m (drop j table)) ≡ m
+  long j m h = length-take-le m (drop j table) (omega (arith, length-drop j table, whole))
 
-  pub made : Tables locations weights real
-  made = their-tables prices locations j k h (pricesFrom prices j locations) real (12 * locations) refl refl real-are weights weights-are
+  listed : (j k : ℕ) → j + n ≤ 26 * n → k + 12 * n ≤ 26 * n → Listed n (take n (drop j table)) (take (12 * n) (drop k table))
+  listed j k a b = record {
+    few = few;
+    ahead-length = long j n a;
+    real-length = long k (12 * n) b;
+    ahead-range = cut-range j n range;
+    real-range = cut-range k (12 * n) range;
+  }
+
+  pub congestion-listed : Listed n (take (n - 0) (drop 0 table)) (take (13 * n - n) (drop n table))
+  congestion-listed =
+      subst (λ (xs : List ℤ). Listed n (take (n - 0) (drop 0 table)) xs) (sym (between-places table n (12 * n) (13 * n) (omega arith)))
+      (subst (λ (xs : List ℤ). Listed n xs (take (12 * n) (drop n table))) (sym (between-places table 0 n n (omega arith))) (listed 0 n (omega arith) (omega arith)))
+
+  pub loss-listed : Listed n (take (14 * n - 13 * n) (drop (13 * n) table)) (take (26 * n - 14 * n) (drop (14 * n) table))
+  loss-listed =
+      subst (λ (xs : List ℤ). Listed n (take (14 * n - 13 * n) (drop (13 * n) table)) xs) (sym (between-places table (14 * n) (12 * n) (26 * n) (omega arith)))
+      (subst (λ (xs : List ℤ). Listed n xs (take (12 * n) (drop (14 * n) table))) (sym (between-places table (13 * n) n (14 * n) (omega arith))) (listed (13 * n) (14 * n) (omega arith) (omega arith)))
+
+-- of a table that was read, they are the file's
+module _ (prices : List ℕ) (n : ℕ) (table : List ℤ) (e : table ≡ pricesFrom prices 0 (26 * n)) where
+  pub congestion-is : congestionCut n table ≡ priceList n (pricesFrom prices 0 n) (pricesFrom prices n (12 * n))
+  congestion-is =
+      ap₂ (priceList n)
+      (between-places table 0 n n (omega arith) ∙ cut prices (26 * n) table e 0 n (omega arith))
+      (between-places table n (12 * n) (13 * n) (omega arith) ∙ cut prices (26 * n) table e n (12 * n) (omega arith))
+
+  pub loss-is : lossCut n table ≡ priceList n (pricesFrom prices (13 * n) n) (pricesFrom prices (14 * n) (12 * n))
+  loss-is =
+      ap₂ (priceList n)
+      (between-places table (13 * n) n (14 * n) (omega arith) ∙ cut prices (26 * n) table e (13 * n) n (omega arith))
+      (between-places table (14 * n) (12 * n) (26 * n) (omega arith) ∙ cut prices (26 * n) table e (14 * n) (12 * n) (omega arith))
+
+  pub table-range : pricesRefusal prices (26 * n) ≡ 0 → InRange table 5000000
+  table-range none = subst (λ (xs : List ℤ). InRange xs 5000000) (sym e) (record { each = prices-within prices (26 * n) none 0 (26 * n) (omega arith) })
+
+-- charges at the one are charges at the other
+pub at-prices : {prices other : Prices} {rows : List Row} {transactions : List Transaction} {totals : List ℤ} → prices ≡ other → Charged prices rows transactions totals → Charged other rows transactions totals
+at-prices {rows = rows} {transactions = transactions} {totals = totals} e = subst (λ (x : Prices). Charged x rows transactions totals) e

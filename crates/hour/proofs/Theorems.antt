@@ -130,9 +130,8 @@ module _ (file : List ℕ) (congestion loss credit net : ℕ) (accepts : hourRef
 
     their-tables : Tables locations weights real
     their-tables =
-        subst (λ (n : ℕ). Tables n weights real) a
-        (tables ahead real (omega (arith, a, small file .locations)) (r ∙ ap (λ (n : ℕ). 12 * n) (sym a)) in-ahead in-real weights
-        (sym (ap (λ (n : ℕ). tab (aheadWeight (priceList n ahead real)) n) a)))
+        tables locations ahead real
+        (record { few = small file .locations; ahead-length = a; real-length = r; ahead-range = in-ahead; real-range = in-real }) weights refl
 
     charge-within : (p : ℕ) → Within (charge (priceList locations ahead real) (rows file) (transactions file) p) hourMost
     charge-within p =

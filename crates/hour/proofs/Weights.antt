@@ -13,103 +13,81 @@ use Rattle.ints.specs.Range.{InRange}
 use Rattle.ints.specs.Refusal.{pick}
 use Rattle.ints.specs.Sum.{sumTo, only}
 use Rattle.ints.specs.Table.{_at_, tab}
-use Rattle.ints.proofs.Ranges.{drop-range, range-at, tab-range, room}
+use Rattle.ints.proofs.Ranges.{drop-range, cut-range, tab-range, room}
 use Rattle.ints.proofs.Sizes.{w-sub, w-mul, w-lit, w-up}
 use Rattle.ints.proofs.Sums.{sumTo-zero, sumTo-next, sumTo-abs}
-use Rattle.ints.proofs.Tables.{length-tab, getD-tab, tab-ext, tab-self}
+use Rattle.ints.proofs.Tables.{length-tab, getD-tab, tab-ext}
 use Rattle.units.specs.Units.{wholeHour}
 use Rattle.rows.specs.Tested.{RowTested, TransactionTested}
 use Rattle.rows.specs.declared.Row.{Row}
 use Rattle.rows.specs.declared.Transaction.{Transaction}
 use Rattle.exercise.specs.Price.{intervalOf}
 use Rattle.tariff.specs.Parts.{sign, aheadWeight, weightIn}
-use Rattle.tariff.specs.Tariff.{Prices, priceList, C}
-use Rattle.hour.specs.Given.{Tables, partIn, pathPartIn}
+use Rattle.tariff.specs.Tariff.{Prices, priceList, P, C}
+use Rattle.hour.specs.Given.{Listed, Tables, partIn, pathPartIn}
 use Rattle.hour.specs.Share.{isShare, shareKw}
 
--- ---- what is left of the weights w when the prices of the first k intervals are taken back
+-- ---- of a price list: what a day-ahead kW counts when the first k intervals are taken back
 
-abbrev pub left : List ℤ → List ℤ → ℕ → ℕ → ℤ
-left w real k l = w at l -ℤ sumTo (λ j. drop (j * length w) real at l) k
+abbrev pub sofar : Prices → ℕ → ℕ → ℤ
+sofar prices k l = wholeHour (P prices l) -ℤ sumTo (λ j. C prices j l) k
 
-module _ (w real : List ℤ) (whole : length real ≡ 12 * length w) (real-range : InRange real 5000000) where
-  abbrev price : ℕ → ℕ → ℤ
-  price l j = drop (j * length w) real at l
+module _ (prices : Prices) (l : ℕ) where
+  sofar-none : wholeHour (P prices l) ≡ sofar prices 0 l
+  sofar-none = sym (ap (λ (z : ℤ). wholeHour (P prices l) -ℤ z) (sumTo-zero (λ j. C prices j l)) ∙ +ℤ-idr (wholeHour (P prices l)))
 
-  pub left-none : w ≡ tab (left w real 0) (length w)
-  left-none =
-      tab-self (pos 0) w
-      ∙ tab-ext (λ l. w at l) (left w real 0) (length w) (λ l _. sym (ap (λ (z : ℤ). w at l -ℤ z) (sumTo-zero (price l)) ∙ +ℤ-idr (w at l)))
+  sofar-next : (k : ℕ) → sofar prices k l -ℤ C prices k l ≡ sofar prices (k + 1) l
+  sofar-next k =
+      +ℤ-assoc (wholeHour (P prices l)) (negℤ (sumTo (λ j. C prices j l) k)) (negℤ (C prices k l))
+      ∙ ap (λ (z : ℤ). wholeHour (P prices l) +ℤ z) (sym (negℤ-+ℤ (sumTo (λ j. C prices j l) k) (C prices k l)) ∙ ap negℤ (sym (sumTo-next (λ j. C prices j l) k)))
+
+  sofar-all : sofar prices 12 l ≡ aheadWeight prices l
+  unfolding aheadWeight
+  sofar-all = refl
+
+module _ (n : ℕ) (ahead real : List ℤ) (h : Listed n ahead real) where
+  abbrev prices : Prices
+  prices = priceList n ahead real
+
+  pub weights-none : tab (λ l. wholeHour (ahead at l)) n ≡ tab (sofar prices 0) n
+  weights-none = tab-ext _ _ n (λ l _. sofar-none prices l)
 
   -- an interval's stretch of the list
-  module _ (k : ℕ) (h : k < 12) where
-    pub stretch-length : length (intervalOf real (length w) k) ≡ length w
-    stretch-length = simp (length-take, length-drop) (omega (arith, room k 12 (length w) h))
+  module _ (k : ℕ) (m : k < 12) where
+    pub stretch-length : length (intervalOf real n k) ≡ n
+    stretch-length = simp (length-take, length-drop) (omega (arith, room k 12 n m, h .real-length))
 
-    pub stretch-range : InRange (intervalOf real (length w) k) 5000000
-    stretch-range =
-        range-at _ 5000000 (λ l m. subst (λ (z : ℤ). Within z 5000000)
-        (sym (getD-take (length w) (drop (k * length w) real) l (pos 0) (omega (arith, stretch-length))))
-        (drop-range (k * length w) real-range .each l))
+    pub stretch-range : InRange (intervalOf real n k) 5000000
+    stretch-range = cut-range (k * n) n (h .real-range)
 
-    step : (l : ℕ) → left w real k l -ℤ price l k ≡ left w real (k + 1) l
-    step l =
-        +ℤ-assoc (w at l) (negℤ (sumTo (price l) k)) (negℤ (price l k))
-        ∙ ap (λ (z : ℤ). w at l +ℤ z) (sym (negℤ-+ℤ (sumTo (price l) k) (price l k)) ∙ ap negℤ (sym (sumTo-next (price l) k)))
+    pub weights-next : (weights stretch : List ℤ) → weights ≡ tab (sofar prices k) n → stretch ≡ intervalOf real n k
+        → tab (λ l. weights at l -ℤ stretch at l) (length weights) ≡ tab (sofar prices (k + 1)) n
+    weights-next weights stretch e f =
+        ap (tab (λ l. weights at l -ℤ stretch at l)) (ap length e ∙ length-tab (sofar prices k) n)
+        ∙ tab-ext _ _ n (λ l i.
+        ap₂ _-ℤ_ (ap (λ (xs : List ℤ). xs at l) e ∙ getD-tab (sofar prices k) (pos 0) n l i)
+        (ap (λ (xs : List ℤ). xs at l) f ∙ getD-take n (drop (k * n) real) l (pos 0) i)
+        ∙ sofar-next prices l k)
 
-    pub left-next : (weights stretch : List ℤ) → weights ≡ tab (left w real k) (length w) → stretch ≡ intervalOf real (length w) k
-        → tab (λ l. weights at l -ℤ stretch at l) (length weights) ≡ tab (left w real (k + 1)) (length w)
-    left-next weights stretch e f =
-        ap (tab (λ l. weights at l -ℤ stretch at l)) (ap length e ∙ length-tab (left w real k) (length w))
-        ∙ tab-ext _ _ (length w) (λ l m.
-        ap₂ _-ℤ_ (ap (λ (xs : List ℤ). xs at l) e ∙ getD-tab (left w real k) (pos 0) (length w) l m)
-        (ap (λ (xs : List ℤ). xs at l) f ∙ getD-take (length w) (drop (k * length w) real) l (pos 0) m)
-        ∙ step l)
+  pub weights-all : tab (sofar prices 12) n ≡ tab (aheadWeight prices) n
+  weights-all = tab-ext _ _ n (λ l _. sofar-all prices l)
 
-  -- the prices of twelve intervals are taken back, 5,000,000 mills each at most
-  pub left-range : InRange w 60000000 → (k : ℕ) → k ≤ 12 → InRange (tab (left w real k) (length w)) 120000000
-  left-range r k m = tab-range (left w real k) (length w) 120000000 (λ l _. w-sub (r .each l) (back l))
+  -- twelve prices, and at most twelve taken back, 5,000,000 mills each at most
+  pub weights-range : (k : ℕ) → k ≤ 12 → InRange (tab (sofar prices k) n) 120000000
+  weights-range k m = tab-range (sofar prices k) n 120000000 (λ l _. w-sub (w-mul (w-lit {x = pos 12} {k = 12} tt) (h .ahead-range .each l)) (back l))
     where
-      back : (l : ℕ) → Within (sumTo (price l) k) 60000000
-      back l = record { within = omega (arith, sumTo-abs (price l) 5000000 k (λ j _. drop-range (j * length w) real-range .each l .within)) }
+      back : (l : ℕ) → Within (sumTo (λ j. C prices j l) k) 60000000
+      back l = record { within = omega (arith, sumTo-abs (λ j. C prices j l) 5000000 k (λ j _. drop-range (j * n) (h .real-range) .each l .within)) }
 
--- ---- weights made of day-ahead prices
-
-module _ (ahead real : List ℤ) where
-  abbrev prices : Prices
-  prices = priceList (length ahead) ahead real
-
-  module _ (w : List ℤ) (e : w ≡ tab (λ l. wholeHour (ahead at l)) (length ahead)) where
-    pub same-length : length w ≡ length ahead
-    same-length = ap length e ∙ length-tab (λ l. wholeHour (ahead at l)) (length ahead)
-
-    pub whole-range : InRange ahead 5000000 → InRange w 60000000
-    whole-range r =
-        subst (λ (xs : List ℤ). InRange xs 60000000) (sym e)
-        (tab-range (λ l. wholeHour (ahead at l)) (length ahead) 60000000 (λ l _. w-mul (w-lit {x = pos 12} {k = 12} tt) (r .each l)))
-
-    pub weights-are : tab (left w real 12) (length w) ≡ tab (aheadWeight prices) (length ahead)
-    unfolding aheadWeight
-    weights-are =
-        ap (tab (left w real 12)) same-length
-        ∙ tab-ext _ _ (length ahead) (λ l m.
-        ap₂ (λ (z : ℤ) (n : ℕ). z -ℤ sumTo (λ j. drop (j * n) real at l) 12)
-        (ap (λ (xs : List ℤ). xs at l) e ∙ getD-tab (λ l. wholeHour (ahead at l)) (pos 0) (length ahead) l m) same-length)
-
-  -- the tables
-  pub tables : length ahead ≤ 64 → length real ≡ 12 * length ahead → InRange ahead 5000000 → InRange real 5000000 → (weights : List ℤ)
-      → weights ≡ tab (aheadWeight prices) (length ahead) → Tables (length ahead) weights real
-  unfolding aheadWeight
-  tables few whole ahead-range real-range weights e = record {
-    few = few;
-    weights-length = ap length e ∙ length-tab (aheadWeight prices) (length ahead);
-    real-length = whole;
-    weights-range = subst (λ (xs : List ℤ). InRange xs 120000000) (sym e) (tab-range (aheadWeight prices) (length ahead) 120000000 (λ l _. w-sub (w-mul (w-lit {x = pos 12} {k = 12} tt) (ahead-range .each l)) (back l)));
-    real-range = real-range;
+  -- the tables that are made of it
+  pub tables : (weights : List ℤ) → weights ≡ tab (aheadWeight prices) n → Tables n weights real
+  tables weights e = record {
+    few = h .few;
+    weights-length = ap length e ∙ length-tab (aheadWeight prices) n;
+    real-length = h .real-length;
+    weights-range = subst (λ (xs : List ℤ). InRange xs 120000000) (sym (e ∙ sym weights-all)) (weights-range 12 (omega arith));
+    real-range = h .real-range;
   }
-    where
-      back : (l : ℕ) → Within (sumTo (λ j. C prices j l) 12) 60000000
-      back l = record { within = omega (arith, sumTo-abs (λ j. C prices j l) 5000000 12 (λ j _. drop-range (j * length ahead) real-range .each l .within)) }
 
 -- ---- a weight is at most 120,000,000 in size
 

@@ -1,9 +1,9 @@
 -- What the functions of the hour hand to one another. Assumes nothing.
 use mathlib.Core.Path.{_≡_}
 use mathlib.Core.List.{List}
-use Prim.Native.Nat.{ℕ, _+_, _*_, _≤_}
+use Prim.Native.Nat.{ℕ, _+_, _*_, _-_, _≤_}
 use lib.IntN.{ℤ, pos, _+ℤ_, _-ℤ_, _*ℤ_}
-use lib.ListN.{length}
+use lib.ListN.{length, take, drop}
 use Rattle.ints.specs.Every.{Added, owed}
 use Rattle.ints.specs.Range.{InRange}
 use Rattle.ints.specs.Table.{_at_}
@@ -19,7 +19,15 @@ use Rattle.tariff.specs.Parts.{sign, weightIn}
 use Rattle.tariff.specs.Tariff.{Prices, priceList, charge}
 use Rattle.hour.specs.Share.{shareKw}
 
--- ---- the tables that rows and transactions are weighed by
+-- ---- prices, and the tables that rows and transactions are weighed by
+
+-- a price list for so many locations, with every price in its range
+pub record Listed (locations : ℕ) (ahead real : List ℤ) : Type 0 where
+  pub few : locations ≤ 64
+  pub ahead-length : length ahead ≡ locations
+  pub real-length : length real ≡ 12 * locations
+  pub ahead-range : InRange ahead 5000000
+  pub real-range : InRange real 5000000
 
 -- a day-ahead weight for each of so many locations, made of 24 prices, and 12 times as many real-time prices
 pub record Tables (locations : ℕ) (weights real : List ℤ) : Type 0 where
@@ -28,11 +36,6 @@ pub record Tables (locations : ℕ) (weights real : List ℤ) : Type 0 where
   pub real-length : length real ≡ 12 * locations
   pub weights-range : InRange weights 120000000
   pub real-range : InRange real 5000000
-
--- lists that they can be made in
-pub record Space (locations : ℕ) (weights real : List ℤ) : Type 0 where
-  pub weights-length : length weights ≡ locations
-  pub real-length : length real ≡ 12 * locations
 
 -- what a row, and a transaction, adds to its participant's total
 abbrev pub partIn : List ℤ → List ℤ → ℕ → Row → ℤ
@@ -83,19 +86,13 @@ rowsMost = 4915200000000000000
 abbrev pub hourMost : ℕ
 hourMost = 6144000000000000000
 
--- ---- prices
+-- ---- a table of all prices of so many locations: the two price lists
 
--- a price list of a stretch of prices: so many day-ahead prices from price j on, and 12 times as many real-time prices from price k on
-abbrev pub pricesAt : List ℕ → ℕ → ℕ → ℕ → Prices
-pricesAt prices locations j k = priceList locations (pricesFrom prices j locations) (pricesFrom prices k (12 * locations))
+abbrev pub congestionCut : ℕ → List ℤ → Prices
+congestionCut n table = priceList n (take (n - 0) (drop 0 table)) (take (13 * n - n) (drop n table))
 
--- they are among the 26 prices of each location that the stretch holds, and none of those is refused
-pub record Priced (prices : List ℕ) (locations j k : ℕ) : Type 0 where
-  pub few : locations ≤ 64
-  pub accepted : pricesRefusal prices (26 * locations) ≡ 0
-  pub whole : 3 * (26 * locations) ≤ length prices
-  pub ahead : j + locations ≤ 26 * locations
-  pub real : k + 12 * locations ≤ 26 * locations
+abbrev pub lossCut : ℕ → List ℤ → Prices
+lossCut n table = priceList n (take (14 * n - 13 * n) (drop (13 * n) table)) (take (26 * n - 14 * n) (drop (14 * n) table))
 
 -- ---- the parts of a file
 
@@ -114,10 +111,10 @@ partsRefusal h prices rows transactions = pricesRefusal prices (priceCount h) th
 
 -- the congestion and the loss prices
 abbrev pub congestionIn : Header → List ℕ → Prices
-congestionIn h prices = pricesAt prices (h .locations) 0 (h .locations)
+congestionIn h prices = priceList (h .locations) (pricesFrom prices 0 (h .locations)) (pricesFrom prices (h .locations) (12 * h .locations))
 
 abbrev pub lossIn : Header → List ℕ → Prices
-lossIn h prices = pricesAt prices (h .locations) (13 * h .locations) (14 * h .locations)
+lossIn h prices = priceList (h .locations) (pricesFrom prices (13 * h .locations) (h .locations)) (pricesFrom prices (14 * h .locations) (12 * h .locations))
 
 -- every participant's total is what the tariff charges it, and its share what its rows count
 pub record Charged (prices : Prices) (rows : List Row) (transactions : List Transaction) (totals : List ℤ) : Type 0 where

@@ -13,12 +13,12 @@ ghost use Rattle.units.specs.Units.{wholeHour};
 ghost use Rattle.rows.specs.Row.{rowsIn, rowsRefusal};
 ghost use Rattle.rows.specs.Tested.{RowTested, TransactionTested};
 ghost use Rattle.rows.specs.Transaction.{transactionsIn, transactionsRefusal};
-ghost use Rattle.exercise.specs.File.{rows, transactions, throughLength, fromPrices};
-ghost use Rattle.exercise.specs.Price.{pricesFrom};
+ghost use Rattle.exercise.specs.Price.{pricesFrom, pricesRefusal};
+ghost use Rattle.exercise.specs.File.{priceCount, rows, transactions, throughLength, fromPrices};
 ghost use Rattle.tariff.specs.Tariff.{priceList};
 ghost use Rattle.tariff.specs.Parts.{aheadWeight, weightIn};
 ghost use Rattle.hour.specs.Share.{isShare, shareKw};
-ghost use Rattle.hour.specs.Given.{Tables, Totals, sharesMost, rowsMost, hourMost, partIn, pathPartIn, RowsAdded, SharesAdded, TransactionsAdded, bothRefusal, BothAdded, pricesAt, Priced, Parts, Space, partsRefusal, congestionIn, lossIn, Charged, Shared, Outputs};
+ghost use Rattle.hour.specs.Given.{Listed, Tables, Totals, sharesMost, rowsMost, hourMost, partIn, pathPartIn, RowsAdded, SharesAdded, TransactionsAdded, bothRefusal, BothAdded, congestionCut, lossCut, Parts, partsRefusal, congestionIn, lossIn, Charged, Shared, Outputs};
 ghost use Rattle.hour.specs.Charges.{participants, congestionPrices, lossPrices, congestionCharges, lossCharges, credits, nets};
 ghost use Rattle.hour.specs.Order.{hourRefusal, wholeRefusal};
 use exercise::DecodedRow;
@@ -50,14 +50,13 @@ fn take(weights: &mut [i64], l: usize, price: Mills)
 }
 
 // Day-ahead prices, for the whole hour.
-fn put_ahead(weights: &mut [i64])
-    requires { ⌜ InRange (now weights) 5000000 ⌝ }
-    ensures { λ _. ⌜ now (weights .exit) ≡ tab (λ l. wholeHour (now (weights .entry) at l)) (length (now (weights .entry))) ⌝ }
+fn put_ahead(ahead: &[i64], weights: &mut [i64])
+    requires { ⌜ (length (now ahead) ≡ length (now weights)) × InRange (now ahead) 5000000 ⌝ }
+    ensures { λ _. ⌜ now (weights .exit) ≡ tab (λ l. wholeHour (now (ahead .entry) at l)) (length (now (weights .entry))) ⌝ }
 {
     let mut l: usize = 0;
-    while l < weights.len() {
-        let weight = units::whole_hour(Mills(weights[l]));
-        put(weights, l, weight);
+    while l < ahead.len() {
+        put(weights, l, units::whole_hour(Mills(ahead[l])));
         l += 1;
     }
 }
@@ -74,12 +73,12 @@ fn take_interval(prices: &[i64], weights: &mut [i64])
     }
 }
 
-// Day-ahead prices, made into weights: a day-ahead kW is priced for the hour and taken back in each of the 12 intervals.
-fn weigh(real: &[i64], weights: &mut [i64])
-    requires { ⌜ (length (now weights) ≤ 64) × (length (now real) ≡ 12 * length (now weights)) × InRange (now real) 5000000 × InRange (now weights) 5000000 ⌝ }
-    ensures { λ _. ⌜ now (weights .exit) ≡ tab (aheadWeight (priceList (length (now (weights .entry))) (now (weights .entry)) (now (real .entry)))) (length (now (weights .entry))) ⌝ }
+// What a day-ahead kW counts at each location: its price for the hour, taken back at the prices of the 12 intervals.
+fn weigh(ahead: &[i64], real: &[i64], weights: &mut [i64])
+    requires { ⌜ Listed (length (now weights)) (now ahead) (now real) ⌝ }
+    ensures { λ _. ⌜ now (weights .exit) ≡ tab (aheadWeight (priceList (length (now (weights .entry))) (now (ahead .entry)) (now (real .entry)))) (length (now (weights .entry))) ⌝ }
 {
-    put_ahead(weights);
+    put_ahead(ahead, weights);
     let mut k: usize = 0;
     while k < 12 {
         take_interval(exercise::interval_prices(real, weights.len(), k), weights);
@@ -340,48 +339,32 @@ fn charge_both(
     )
 }
 
-// ---- prices
-
-// The tables of a price list whose day-ahead prices start at price j of a stretch and whose real-time prices start at price k.
-fn read_tables(prices: &[u8], j: usize, k: usize, weights: &mut [i64], real: &mut [i64])
-    requires { ⌜ Priced (now prices) (length (now weights)) j k × (length (now real) ≡ 12 * length (now weights)) ⌝ }
-    ensures { λ _. ⌜ now (weights .exit) ≡ tab (aheadWeight (pricesAt (now (prices .entry)) (length (now (weights .entry))) j k)) (length (now (weights .entry))) ⌝ }
-    ensures { λ _. ⌜ now (real .exit) ≡ pricesFrom (now (prices .entry)) k (length (now (real .entry))) ⌝ }
-{
-    exercise::read_prices(prices, j, weights);
-    exercise::read_prices(prices, k, real);
-    weigh(real, weights);
-}
-
-// The parts of a file: prices, rows and transactions. The tables are made in the lists that are lent for them.
-fn charge_priced(
+// Rows and transactions at two price lists. The weights are made in the lists that are lent for them.
+fn charge_listed(
     header: Header,
-    prices: &[u8],
     rows: &[u8],
     transactions: &[u8],
+    congestion_ahead: &[i64],
+    congestion_real: &[i64],
+    loss_ahead: &[i64],
+    loss_real: &[i64],
     congestion_weights: &mut [i64],
-    congestion_real: &mut [i64],
     loss_weights: &mut [i64],
-    loss_real: &mut [i64],
     charged: &mut [i64],
     lost: &mut [i64],
     shares: &mut [i64],
 ) -> u32
-    requires { ⌜ Parts header (now prices) (now rows) (now transactions) ⌝ }
-    requires { ⌜ Space (header .locations) (now «congestion_weights») (now «congestion_real») × Space (header .locations) (now «loss_weights») (now «loss_real») ⌝ }
+    requires { ⌜ (header .participants ≤ 64) × (header .rows ≤ 2048) × (header .transactions ≤ 256) × (6 * header .rows ≤ length (now rows)) × (6 * header .transactions ≤ length (now transactions)) ⌝ }
+    requires { ⌜ Listed (header .locations) (now «congestion_ahead») (now «congestion_real») × Listed (header .locations) (now «loss_ahead») (now «loss_real») ⌝ }
+    requires { ⌜ (length (now «congestion_weights») ≡ header .locations) × (length (now «loss_weights») ≡ header .locations) ⌝ }
     requires { ⌜ Totals (now charged) 0 × Totals (now lost) 0 × Totals (now shares) 0 ⌝ }
-    ensures { λ r. ⌜ r ≡ partsRefusal header (now (prices .entry)) (now (rows .entry)) (now (transactions .entry)) ⌝ }
-    ensures { λ r. ⌜ (r ≡ 0 → Charged (congestionIn header (now (prices .entry))) (rowsIn (now (rows .entry)) (header .rows)) (transactionsIn (now (transactions .entry)) (header .transactions)) (now (charged .exit))) ⌝ }
-    ensures { λ r. ⌜ (r ≡ 0 → Charged (lossIn header (now (prices .entry))) (rowsIn (now (rows .entry)) (header .rows)) (transactionsIn (now (transactions .entry)) (header .transactions)) (now (lost .exit))) ⌝ }
+    ensures { λ r. ⌜ r ≡ bothRefusal header (now (rows .entry)) (now (transactions .entry)) ⌝ }
+    ensures { λ r. ⌜ (r ≡ 0 → Charged (priceList (header .locations) (now («congestion_ahead» .entry)) (now («congestion_real» .entry))) (rowsIn (now (rows .entry)) (header .rows)) (transactionsIn (now (transactions .entry)) (header .transactions)) (now (charged .exit))) ⌝ }
+    ensures { λ r. ⌜ (r ≡ 0 → Charged (priceList (header .locations) (now («loss_ahead» .entry)) (now («loss_real» .entry))) (rowsIn (now (rows .entry)) (header .rows)) (transactionsIn (now (transactions .entry)) (header .transactions)) (now (lost .exit))) ⌝ }
     ensures { λ r. ⌜ (r ≡ 0 → Shared (rowsIn (now (rows .entry)) (header .rows)) (now (shares .exit))) ⌝ }
 {
-    let n = header.locations;
-    let refusal = exercise::prices_refusal(prices, 26 * n);
-    if refusal != 0 {
-        return refusal;
-    }
-    read_tables(prices, 0, n, congestion_weights, congestion_real);
-    read_tables(prices, 13 * n, 14 * n, loss_weights, loss_real);
+    weigh(congestion_ahead, congestion_real, congestion_weights);
+    weigh(loss_ahead, loss_real, loss_weights);
     charge_both(
         header,
         rows,
@@ -396,7 +379,101 @@ fn charge_priced(
     )
 }
 
-// The same, with tables of its own.
+// The same from a table of all prices: congestion day-ahead, congestion real time, loss day-ahead, loss real time.
+fn charge_table(
+    header: Header,
+    rows: &[u8],
+    transactions: &[u8],
+    table: &[i64],
+    congestion_weights: &mut [i64],
+    loss_weights: &mut [i64],
+    charged: &mut [i64],
+    lost: &mut [i64],
+    shares: &mut [i64],
+) -> u32
+    requires { ⌜ (header .participants ≤ 64) × (header .rows ≤ 2048) × (header .transactions ≤ 256) × (6 * header .rows ≤ length (now rows)) × (6 * header .transactions ≤ length (now transactions)) ⌝ }
+    requires { ⌜ (header .locations ≤ 64) × (length (now table) ≡ priceCount header) × InRange (now table) 5000000 ⌝ }
+    requires { ⌜ (length (now «congestion_weights») ≡ header .locations) × (length (now «loss_weights») ≡ header .locations) ⌝ }
+    requires { ⌜ Totals (now charged) 0 × Totals (now lost) 0 × Totals (now shares) 0 ⌝ }
+    ensures { λ r. ⌜ r ≡ bothRefusal header (now (rows .entry)) (now (transactions .entry)) ⌝ }
+    ensures { λ r. ⌜ (r ≡ 0 → Charged (congestionCut (header .locations) (now (table .entry))) (rowsIn (now (rows .entry)) (header .rows)) (transactionsIn (now (transactions .entry)) (header .transactions)) (now (charged .exit))) ⌝ }
+    ensures { λ r. ⌜ (r ≡ 0 → Charged (lossCut (header .locations) (now (table .entry))) (rowsIn (now (rows .entry)) (header .rows)) (transactionsIn (now (transactions .entry)) (header .transactions)) (now (lost .exit))) ⌝ }
+    ensures { λ r. ⌜ (r ≡ 0 → Shared (rowsIn (now (rows .entry)) (header .rows)) (now (shares .exit))) ⌝ }
+{
+    let n = header.locations;
+    let a = 13 * n;
+    let b = 14 * n;
+    let c = 26 * n;
+    charge_listed(
+        header,
+        rows,
+        transactions,
+        &table[0..n],
+        &table[n..a],
+        &table[a..b],
+        &table[b..c],
+        congestion_weights,
+        loss_weights,
+        charged,
+        lost,
+        shares,
+    )
+}
+
+// ---- the parts of a file: prices, rows and transactions
+
+// All prices, read into a table, and their refusal, 0 where there is none.
+fn read_table(prices: &[u8], table: &mut [i64]) -> u32
+    requires { ⌜ 3 * length (now table) ≤ length (now prices) ⌝ }
+    ensures { λ r. ⌜ r ≡ pricesRefusal (now (prices .entry)) (length (now (table .entry))) ⌝ }
+    ensures { λ _. ⌜ now (table .exit) ≡ pricesFrom (now (prices .entry)) 0 (length (now (table .entry))) ⌝ }
+{
+    exercise::read_prices(prices, 0, table);
+    if ints::all_between(table, -5_000_000, 5_000_000) {
+        return 0;
+    }
+    2
+}
+
+// The table and the weights are made in the lists that are lent for them.
+fn charge_priced(
+    header: Header,
+    prices: &[u8],
+    rows: &[u8],
+    transactions: &[u8],
+    table: &mut [i64],
+    congestion_weights: &mut [i64],
+    loss_weights: &mut [i64],
+    charged: &mut [i64],
+    lost: &mut [i64],
+    shares: &mut [i64],
+) -> u32
+    requires { ⌜ Parts header (now prices) (now rows) (now transactions) ⌝ }
+    requires { ⌜ (length (now table) ≡ priceCount header) × (length (now «congestion_weights») ≡ header .locations) × (length (now «loss_weights») ≡ header .locations) ⌝ }
+    requires { ⌜ Totals (now charged) 0 × Totals (now lost) 0 × Totals (now shares) 0 ⌝ }
+    ensures { λ r. ⌜ r ≡ partsRefusal header (now (prices .entry)) (now (rows .entry)) (now (transactions .entry)) ⌝ }
+    ensures { λ r. ⌜ (r ≡ 0 → Charged (congestionIn header (now (prices .entry))) (rowsIn (now (rows .entry)) (header .rows)) (transactionsIn (now (transactions .entry)) (header .transactions)) (now (charged .exit))) ⌝ }
+    ensures { λ r. ⌜ (r ≡ 0 → Charged (lossIn header (now (prices .entry))) (rowsIn (now (rows .entry)) (header .rows)) (transactionsIn (now (transactions .entry)) (header .transactions)) (now (lost .exit))) ⌝ }
+    ensures { λ r. ⌜ (r ≡ 0 → Shared (rowsIn (now (rows .entry)) (header .rows)) (now (shares .exit))) ⌝ }
+{
+    let refusal = read_table(prices, table);
+    if refusal != 0 {
+        return refusal;
+    }
+    charge_table(
+        header,
+        rows,
+        transactions,
+        table,
+        congestion_weights,
+        loss_weights,
+        charged,
+        lost,
+        shares,
+    )
+}
+
+// With lists of its own.
 fn charge_parts(
     header: Header,
     prices: &[u8],
@@ -413,21 +490,19 @@ fn charge_parts(
     ensures { λ r. ⌜ (r ≡ 0 → Charged (lossIn header (now (prices .entry))) (rowsIn (now (rows .entry)) (header .rows)) (transactionsIn (now (transactions .entry)) (header .transactions)) (now (lost .exit))) ⌝ }
     ensures { λ r. ⌜ (r ≡ 0 → Shared (rowsIn (now (rows .entry)) (header .rows)) (now (shares .exit))) ⌝ }
 {
+    let mut table = [0i64; 1664];
     let mut congestion_weights = [0i64; 64];
-    let mut congestion_real = [0i64; 768];
     let mut loss_weights = [0i64; 64];
-    let mut loss_real = [0i64; 768];
     let n = header.locations;
-    let m = 12 * n;
+    let m = 26 * n;
     charge_priced(
         header,
         prices,
         rows,
         transactions,
+        &mut table[..m],
         &mut congestion_weights[..n],
-        &mut congestion_real[..m],
         &mut loss_weights[..n],
-        &mut loss_real[..m],
         charged,
         lost,
         shares,

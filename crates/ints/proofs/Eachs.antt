@@ -2,14 +2,17 @@
 use mathlib.Core.Path.{_≡_, refl, sym, ap, ap₂, _∙_}
 use mathlib.Core.Logic.{⊎-elim}
 use mathlib.Core.Bool.{Bool, true, false, _&&_, and-false}
-use mathlib.Core.List.{List, [], _∷_}
+use mathlib.Core.List.{List, [], _∷_, _++_}
 use Prim.Native.Nat.{ℕ, zero, suc, _+_, _<_, suc-le-suc}
 use native.Mathlib.Nat.{eq-or-lt-of-le, le-of-suc-le-suc, not-suc-le-zero}
 use native.Mathlib.Numerals.{add-one}
 use native.Mathlib.Omega.{arith}
 use lib.ListN.{length, getD}
+use borrow.Author.Tests.{ne-eqb}
 use Rattle.ints.specs.Each.{allTo}
-use Rattle.ints.specs.Table.{all}
+use Rattle.ints.specs.Refusal.{pick, unless}
+use Rattle.ints.specs.Table.{tab, all}
+use Rattle.ints.specs.Turn.{_then_, inTurn}
 use Rattle.ints.proofs.Bools.{and-true}
 
 module _ (t : ℕ → Bool) where
@@ -50,3 +53,33 @@ pub all-each : {A : Type 0} (t : A → Bool) (d : A) (l : List A) → ((i : ℕ)
 unfolding all
 all-each t d [] h = refl
 all-each t d (x ∷ xs) h = ap₂ _&&_ (h 0 (omega arith)) (all-each t d xs (λ i l. h (suc i) (suc-le-suc l)))
+
+-- one element more, at the end
+all-last : {A : Type 0} (t : A → Bool) (xs : List A) (x : A) → all t (xs ++ (x ∷ [])) ≡ (all t xs && t x)
+unfolding all
+all-last t [] x = and-true-right (t x)
+  where
+    and-true-right : (b : Bool) → (b && true) ≡ b
+    and-true-right true = refl
+    and-true-right false = refl
+all-last t (y ∷ ys) x = ap (λ (b : Bool). t y && b) (all-last t ys x) ∙ sym (and-assoc (t y) (all t ys) (t x))
+  where
+    and-assoc : (a b c : Bool) → (a && b && c) ≡ (a && (b && c))
+    and-assoc true b c = refl
+    and-assoc false b c = refl
+
+-- things that are refused by one number, in turn: that number unless all pass
+pub turn-all : {A : Type 0} (t : A → Bool) (g : ℕ → A) (k n : ℕ) → inTurn (λ i. unless (t (g i)) (suc k) 0) n ≡ unless (all t (tab g n)) (suc k) 0
+unfolding inTurn tab all
+turn-all t g k zero = refl
+turn-all t g k (suc n) =
+    ap (λ (r : ℕ). r then unless (t (g n)) (suc k) 0) (turn-all t g k n)
+    ∙ both (all t (tab g n)) (t (g n))
+    ∙ ap (λ (b : Bool). unless b (suc k) 0) (sym (all-last t (tab g n) (g n)))
+  where
+    both : (a b : Bool) → (unless a (suc k) 0 then unless b (suc k) 0) ≡ unless (a && b) (suc k) 0
+    both true b = refl
+    both false b = ap (λ (c : Bool). pick c (unless b (suc k) 0) (suc k)) (ne-eqb (suc k) 0 some)
+      where
+        some : suc k ≡ 0 → ⊥
+        some e = omega arith

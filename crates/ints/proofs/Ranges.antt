@@ -7,8 +7,8 @@ use native.Mathlib.Nat.{mul-le-mul-right, suc-mul}
 use native.Mathlib.Omega.{arith}
 use lib.Dec.{ltb}
 use lib.IntN.{ℤ, pos}
-use lib.ListN.{length, drop, replicate, List·getD-eq-default}
-use lib.Seq.{getD-drop}
+use lib.ListN.{length, take, drop, replicate, length-take, List·getD-eq-default}
+use lib.Seq.{getD-take, getD-drop}
 use borrow.Author.Tests.{ltb-true, ltb-false}
 use Rattle.ints.specs.Number.{Within}
 use Rattle.ints.specs.Range.{InRange}
@@ -29,6 +29,12 @@ range-at xs k h = record { each = λ i. by i (ltb i (length xs)) refl }
     by : (i : ℕ) (b : Bool) → ltb i (length xs) ≡ b → Within (xs at i) k
     by i true e = h i (ltb-true i (length xs) e)
     by i false e = subst (λ (z : ℤ). Within z k) (sym (List·getD-eq-default xs (pos 0) (ltb-false i (length xs) e))) (w-up (w-lit {x = pos 0} {k = 0} tt) (omega arith))
+
+-- a part of a list
+pub cut-range : {xs : List ℤ} {k : ℕ} (j m : ℕ) → InRange xs k → InRange (take m (drop j xs)) k
+cut-range {xs} {k} j m r =
+    range-at (take m (drop j xs)) k
+    (λ i l. subst (λ (z : ℤ). Within z k) (sym (getD-take m (drop j xs) i (pos 0) (omega (arith, length-take m (drop j xs))))) (drop-range j r .each i))
 
 pub tab-range : (f : ℕ → ℤ) (n k : ℕ) → ((i : ℕ) → i < n → Within (f i) k) → InRange (tab f n) k
 tab-range f n k h =

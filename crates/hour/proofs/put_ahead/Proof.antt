@@ -1,68 +1,73 @@
--- `hour::put_ahead` meets its contract. Assumes nothing.
-use mathlib.Core.Path.{_≡_, sym, ap, _∙_, subst}
-use Prim.Native.Nat.{_-_, _≤_}
-use native.Mathlib.Omega.{arith}
-use lib.IntN.{ℤ, pos}
-use lib.ListN.{length}
-use mir.Syntax.{w64}
-use mir.Val.{toZ, ofZ}
-use borrow.Author.Needs.{needs}
-use Rattle.ints.specs.Number.{Within}
-use Rattle.ints.specs.Table.{_at_}
-use Rattle.ints.proofs.Sizes.{w-read}
-use Rattle.ints.proofs.Tables.{InPlace, place-start, place-next, place-done}
 use Rattle.units.specs.Units.{wholeHour}
+use Rattle.ints.proofs.Tables.{tab-none, tab-store, tab-done}
+use Rattle.ints.proofs.Sizes.{w-read}
+use Rattle.ints.specs.Table.{_at_, tab}
+use Rattle.ints.specs.Number.{Within}
+use borrow.Author.Needs.{needs}
+use lib.ListN.{length, take}
+use lib.IntN.{ℤ, pos}
+use native.Mathlib.Omega.{arith}
+use Prim.Native.Nat.{ℕ, _-_, _≤_}
+use mathlib.Core.Path.{_≡_, sym, ap, _∙_, subst}
 use Rattle.hour.proofs.put_ahead.Statement.{statement}
 use Rattle.hour.proofs.put_ahead.Tie as tie
+use Rattle.hour.proofs.put_ahead.Reads as reads
+use Rattle.hour.proofs.put_ahead.Lts as lts
+use Rattle.hour.proofs.put.Reads as put-reads
+use Rattle.units.proofs.whole_hour.Reads as whole-hour-reads
 
 abbrev Inv-loop : tie.InvT-loop
-Inv-loop weights₀ l₀ weights l = (l ≤ length weights₀) × InPlace (pos 0) (λ i. wholeHour (weights₀ at i)) weights₀ l weights
+Inv-loop ahead weights₀ l₀ weights l = (l ≤ length ahead) × (length weights ≡ length weights₀) × (take l weights ≡ tab (λ i. wholeHour (ahead at i)) l)
 
 abbrev μ-loop : tie.MeasureT-loop
-μ-loop weights₀ l₀ weights l = length weights₀ - l
+μ-loop ahead weights₀ l₀ weights l = length ahead - l
 
-here : (a : tie.At-loop Inv-loop μ-loop) → a .loop .weights at a .loop .l ≡ a .before .args .weights .now at a .loop .l
-here a = a .loop .inv .1 .rest (a .loop .l) (omega arith)
-
-read : (a : tie.At-loop Inv-loop μ-loop) → toZ w64 (ofZ w64 (a .loop .weights at a .loop .l)) ≡ a .before .args .weights .now at a .loop .l
-read a = ap (λ (z : ℤ). toZ w64 (ofZ w64 z)) (here a) ∙ w-read (a .before .pre .each (a .loop .l)) tt
-
-price : (a : tie.At-loop Inv-loop μ-loop) → Within (toZ w64 (ofZ w64 (a .loop .weights at a .loop .l))) 5000000
-price a = subst (λ (z : ℤ). Within z 5000000) (sym (read a)) (a .before .pre .each (a .loop .l))
-
+-- src/lib.rt:57:5
 loop-holds : tie.Need-loop-holds Inv-loop μ-loop
-loop-holds c = (search needs, place-start (pos 0) _ _)
+loop-holds c = (search needs, search needs, tab-none _)
 
+-- src/lib.rt:58:49
 mul-t4 : tie.Need-mul-t4 Inv-loop μ-loop
-mul-t4 c = let p = c .before .loop .inv .1 .long in search needs
+mul-t4 c = search needs
 
-slice-copy-out-t7 : tie.Need-slice-copy-out-t7 Inv-loop μ-loop
-slice-copy-out-t7 c = let p = c .before .loop .inv .1 .long in search needs
+-- src/lib.rt:58:49
+shared-slice-copy-out-t11 : tie.Need-shared-slice-copy-out-t11 Inv-loop μ-loop
+shared-slice-copy-out-t11 c = search needs
 
+-- src/lib.rt:58:25
 whole-hour-requires : tie.Need-whole-hour-requires Inv-loop μ-loop
-whole-hour-requires c κs = let a = c .before .before in price a
+whole-hour-requires c κs = let a = c .before .before .before in
+    subst (λ (z : ℤ). Within z 5000000) (sym (w-read (a .before .pre .1 .each (a .loop .l)) tt)) (a .before .pre .1 .each (a .loop .l))
 
+-- src/lib.rt:58:9
 put-requires : tie.Need-put-requires Inv-loop μ-loop
-put-requires c κs = let a = c .before .before .before .before in omega (arith, a .loop .inv .1 .long)
+put-requires c κs = let a = c .before .before .before .before in omega (arith, a .loop .inv .1, a .before .pre .0)
 
+-- src/lib.rt:59:9
 add-l : tie.Need-add-l Inv-loop μ-loop
 add-l c = search needs
 
+-- src/lib.rt:57:5
 loop-less : tie.Need-loop-less Inv-loop μ-loop
-loop-less c = let a = c .before .before .before .before .before .before in let p = a .loop .inv .1 .long in search needs
+loop-less c = search needs
 
+-- src/lib.rt:57:5
 loop-again : tie.Need-loop-again Inv-loop μ-loop
-loop-again c = let h = c .before .before .before in
-    let a = h .before .before .before in
-    let p = a .loop .inv .1 in
-    (omega (arith, p .long), place-next (pos 0) _ _ (a .loop .weights) _ (a .loop .l) _ p (omega (arith, p .long)) (h .whole-hour .ensures ∙ ap wholeHour (read a)) (c .before .put .ensures))
+loop-again c = let h = c .before .before in
+    let a = h .before .before .before .before in
+    let made = h .whole-hour .ensures ∙ ap wholeHour (w-read (a .before .pre .1 .each (a .loop .l)) tt) in
+    (search needs, search needs,
+    rw (c .before .put .ensures) (tab-store _ (a .loop .weights) (a .loop .l) _ (omega (arith, a .loop .inv .1, a .before .pre .0)) made (a .loop .inv .2)))
 
+-- src/lib.rt:52:1
 same-length : tie.Need-same-length Inv-loop μ-loop
-same-length c = c .before .loop .inv .1 .long
+same-length c = c .before .loop .inv .1
 
+-- src/lib.rt:52:1
 returns : tie.Need-returns Inv-loop μ-loop
 returns c = let a = c .before in
-    place-done (pos 0) _ _ (a .loop .weights) (a .loop .l) (a .loop .inv .1) (omega (arith, a .loop .inv .1 .long)) (a .loop .inv .0)
+    let long : length (a .loop .weights) ≡ a .loop .l = omega (arith, a .loop .inv .1, a .before .pre .0) in
+    tab-done _ (a .loop .weights) (a .loop .l) long (a .loop .inv .2) ∙ ap (tab _) (a .loop .inv .1)
 
 pub put-ahead-spec : {M : Type 1} → statement M
 put-ahead-spec =
@@ -72,7 +77,7 @@ put-ahead-spec =
     μ-loop
     loop-holds
     mul-t4
-    slice-copy-out-t7
+    shared-slice-copy-out-t11
     whole-hour-requires
     put-requires
     add-l
