@@ -1,17 +1,14 @@
-use Rattle.hour.proofs.Weights.{tables}
-use Rattle.hour.proofs.Total.{charged}
-use Rattle.tariff.specs.Tariff.{priceList}
-use Rattle.tariff.specs.Parts.{aheadWeight}
-use Rattle.ints.specs.Table.{tab}
-use Prim.Native.Nat.{ℕ}
+-- `hour::charge_listed` meets its contract. Assumes nothing.
 use mathlib.Core.Path.{_≡_, refl, sym, ap, _∙_}
+use Prim.Native.Nat.{ℕ}
 use borrow.Author.Needs.{needs}
+use Rattle.ints.specs.Table.{tab}
+use Rattle.tariff.specs.Parts.{aheadWeight}
+use Rattle.tariff.specs.Tariff.{priceList}
+use Rattle.hour.proofs.Total.{charged}
+use Rattle.hour.proofs.Weights.{tables}
 use Rattle.hour.proofs.charge_listed.Statement.{statement}
 use Rattle.hour.proofs.charge_listed.Tie as tie
-use Rattle.hour.proofs.charge_listed.Reads as reads
-use Rattle.hour.proofs.charge_listed.Lts as lts
-use Rattle.hour.proofs.charge_both.Reads as charge-both-reads
-use Rattle.hour.proofs.weigh.Reads as weigh-reads
 
 module _ (w : tie.After-weigh2) where
   abbrev first : tie.After-weigh
@@ -30,51 +27,46 @@ module _ (w : tie.After-weigh2) where
       w .weigh2 .ensures
       ∙ ap (λ (n : ℕ). tab (aheadWeight (priceList n (given .args .loss-ahead .now) (given .args .loss-real .now))) n) (given .pre .1 .1 .0 .1)
 
-
--- src/lib.rt:366:5
 weigh-requires : tie.Need-weigh-requires
 weigh-requires c κs = search needs
 
--- src/lib.rt:367:5
 weigh-requires-2 : tie.Need-weigh-requires-2
 weigh-requires-2 c κs = search needs
 
--- src/lib.rt:368:5
 charge-both-requires : tie.Need-charge-both-requires
 charge-both-requires c κs = let w = c .before .before .before .before .before .before in
     let s = given w in
     (s .pre .0, ((tables _ _ _ (s .pre .1 .0 .0) _ (congestion-is w), tables _ _ _ (s .pre .1 .0 .1) _ (loss-is w)), s .pre .1 .1 .1))
 
--- src/lib.rt:343:1
 same-length : tie.Need-same-length
 same-length c = search needs
 
--- src/lib.rt:343:1
 same-length-2 : tie.Need-same-length-2
 same-length-2 c = search needs
 
--- src/lib.rt:343:1
 same-length-3 : tie.Need-same-length-3
 same-length-3 c = search needs
 
--- src/lib.rt:343:1
 same-length-4 : tie.Need-same-length-4
 same-length-4 c = search needs
 
--- src/lib.rt:343:1
 same-length-5 : tie.Need-same-length-5
 same-length-5 c = search needs
 
--- src/lib.rt:343:1
 returns : tie.Need-returns
 returns c = let b = c .before .before .before in
     let w = b .before .before .before .before .before .before .before in
     let h = given w .args .header in
-    let e = b .charge-both .ensures in
-    (e .0,
-    (λ z. charged h _ _ _ _ (congestion-is w) refl _ _ (sym (e .0) ∙ z) (e .1 .0 z),
-    (λ z. charged h _ _ _ _ (loss-is w) refl _ _ (sym (e .0) ∙ z) (e .1 .1 .0 z),
-    e .1 .1 .1)))
+    let e = b .charge-both .ensures in (
+      e .0,
+      (
+        λ z. charged h _ _ _ _ (congestion-is w) refl _ _ (sym (e .0) ∙ z) (e .1 .0 z),
+        (
+          λ z. charged h _ _ _ _ (loss-is w) refl _ _ (sym (e .0) ∙ z) (e .1 .1 .0 z),
+          e .1 .1 .1,
+        ),
+      ),
+    )
 
 pub charge-listed-spec : {M : Type 1} → statement M
 charge-listed-spec =

@@ -1,15 +1,13 @@
-use lib.Seq.{length-take-le}
-use lib.ListN.{length, take, replicate}
-use lib.IntN.{pos}
-use native.Mathlib.Omega.{arith}
-use Prim.Native.Nat.{ℕ, _*_}
+-- `hour::charge_parts` meets its contract. Assumes nothing.
 use mathlib.Core.Path.{_≡_, sym}
+use Prim.Native.Nat.{_*_}
+use native.Mathlib.Omega.{arith}
+use lib.IntN.{pos}
+use lib.ListN.{length, take, replicate}
+use lib.Seq.{length-take-le}
 use borrow.Author.Needs.{needs}
 use Rattle.hour.proofs.charge_parts.Statement.{statement}
 use Rattle.hour.proofs.charge_parts.Tie as tie
-use Rattle.hour.proofs.charge_parts.Reads as reads
-use Rattle.hour.proofs.charge_parts.Lts as lts
-use Rattle.hour.proofs.charge_priced.Reads as charge-priced-reads
 
 -- the fronts of lists as they are made
 short : (s : tie.Start) → length (take (s .args .header .locations) (replicate 64 (pos 0))) ≡ s .args .header .locations
@@ -18,52 +16,40 @@ short s = length-take-le (s .args .header .locations) (replicate 64 (pos 0)) (s 
 long : (s : tie.Start) → length (take (26 * s .args .header .locations) (replicate 1664 (pos 0))) ≡ 26 * s .args .header .locations
 long s = length-take-le (26 * s .args .header .locations) (replicate 1664 (pos 0)) (omega (arith, s .pre .0 .locations))
 
--- src/lib.rt:497:13
 mul-m : tie.Need-mul-m
 mul-m c = search needs
 
--- src/lib.rt:503:9
 array-borrow-prefix-table : tie.Need-array-borrow-prefix-table
 array-borrow-prefix-table c = search needs
 
--- src/lib.rt:503:9
 slice-aggregate-charge-priced : tie.Need-slice-aggregate-charge-priced
 slice-aggregate-charge-priced c = sym (long (c .before .before .before .before))
 
--- src/lib.rt:504:9
 array-borrow-prefix-congestion-weights : tie.Need-array-borrow-prefix-congestion-weights
 array-borrow-prefix-congestion-weights c = search needs
 
--- src/lib.rt:504:9
 slice-aggregate-charge-priced-2 : tie.Need-slice-aggregate-charge-priced-2
 slice-aggregate-charge-priced-2 c = sym (short (c .before .before .before .before .before))
 
--- src/lib.rt:505:9
 array-borrow-prefix-loss-weights : tie.Need-array-borrow-prefix-loss-weights
 array-borrow-prefix-loss-weights c = search needs
 
--- src/lib.rt:505:9
 slice-aggregate-charge-priced-3 : tie.Need-slice-aggregate-charge-priced-3
 slice-aggregate-charge-priced-3 c = sym (short (c .before .before .before .before .before .before))
 
--- src/lib.rt:498:5
 charge-priced-requires : tie.Need-charge-priced-requires
 charge-priced-requires c κs = let s = c .before .before .before .before .before .before .before .before .before in
     (s .pre .0, ((long s, short s, short s), s .pre .1))
 
--- src/lib.rt:477:1
 same-length : tie.Need-same-length
 same-length c = search needs
 
--- src/lib.rt:477:1
 same-length-2 : tie.Need-same-length-2
 same-length-2 c = search needs
 
--- src/lib.rt:477:1
 same-length-3 : tie.Need-same-length-3
 same-length-3 c = search needs
 
--- src/lib.rt:477:1
 returns : tie.Need-returns
 returns c = search needs
 

@@ -1,110 +1,83 @@
-use Rattle.hour.proofs.Priced.{congestion-listed, loss-listed}
+-- `hour::charge_table` meets its contract. Assumes nothing.
 use borrow.Author.Needs.{needs}
+use Rattle.hour.proofs.Priced.{congestion-listed, loss-listed}
 use Rattle.hour.proofs.charge_table.Statement.{statement}
 use Rattle.hour.proofs.charge_table.Tie as tie
-use Rattle.hour.proofs.charge_table.Reads as reads
-use Rattle.hour.proofs.charge_table.Lts as lts
-use Rattle.hour.proofs.charge_listed.Reads as charge-listed-reads
 
--- src/lib.rt:404:13
 mul-a : tie.Need-mul-a
 mul-a c = search needs
 
--- src/lib.rt:405:13
 mul-b : tie.Need-mul-b
 mul-b c = search needs
 
--- src/lib.rt:406:13
 mul-c : tie.Need-mul-c
 mul-c c = search needs
 
--- src/lib.rt:411:9
 sub-charge-listed : tie.Need-sub-charge-listed
 sub-charge-listed c = search needs
 
--- src/lib.rt:411:9
 part-charge-listed-start : tie.Need-part-charge-listed-start
 part-charge-listed-start c = search needs
 
--- src/lib.rt:411:9
 part-charge-listed-end : tie.Need-part-charge-listed-end
 part-charge-listed-end c = search needs
 
--- src/lib.rt:412:9
 mul-charge-listed : tie.Need-mul-charge-listed
 mul-charge-listed c = search needs
 
--- src/lib.rt:412:9
 sub-charge-listed-2 : tie.Need-sub-charge-listed-2
 sub-charge-listed-2 c = search needs
 
--- src/lib.rt:412:9
 part-charge-listed-start-2 : tie.Need-part-charge-listed-start-2
 part-charge-listed-start-2 c = search needs
 
--- src/lib.rt:412:9
 part-charge-listed-end-2 : tie.Need-part-charge-listed-end-2
 part-charge-listed-end-2 c = search needs
 
--- src/lib.rt:413:9
 mul-charge-listed-2 : tie.Need-mul-charge-listed-2
 mul-charge-listed-2 c = search needs
 
--- src/lib.rt:413:9
 sub-charge-listed-3 : tie.Need-sub-charge-listed-3
 sub-charge-listed-3 c = search needs
 
--- src/lib.rt:413:9
 part-charge-listed-start-3 : tie.Need-part-charge-listed-start-3
 part-charge-listed-start-3 c = search needs
 
--- src/lib.rt:413:9
 part-charge-listed-end-3 : tie.Need-part-charge-listed-end-3
 part-charge-listed-end-3 c = search needs
 
--- src/lib.rt:414:9
 mul-charge-listed-3 : tie.Need-mul-charge-listed-3
 mul-charge-listed-3 c = search needs
 
--- src/lib.rt:414:9
 sub-charge-listed-4 : tie.Need-sub-charge-listed-4
 sub-charge-listed-4 c = search needs
 
--- src/lib.rt:414:9
 part-charge-listed-start-4 : tie.Need-part-charge-listed-start-4
 part-charge-listed-start-4 c = search needs
 
--- src/lib.rt:414:9
 part-charge-listed-end-4 : tie.Need-part-charge-listed-end-4
 part-charge-listed-end-4 c = search needs
 
--- src/lib.rt:407:5
 charge-listed-requires : tie.Need-charge-listed-requires
 charge-listed-requires c κs = let s = c .before .before .before .before .before .before .before .before .before .before .before in
     let t = s .pre .1 .0 in
     (s .pre .0, ((congestion-listed _ (t .0) _ (t .1) (t .2), loss-listed _ (t .0) _ (t .1) (t .2)), s .pre .1 .1))
 
--- src/lib.rt:383:1
 same-length : tie.Need-same-length
 same-length c = search needs
 
--- src/lib.rt:383:1
 same-length-2 : tie.Need-same-length-2
 same-length-2 c = search needs
 
--- src/lib.rt:383:1
 same-length-3 : tie.Need-same-length-3
 same-length-3 c = search needs
 
--- src/lib.rt:383:1
 same-length-4 : tie.Need-same-length-4
 same-length-4 c = search needs
 
--- src/lib.rt:383:1
 same-length-5 : tie.Need-same-length-5
 same-length-5 c = search needs
 
--- src/lib.rt:383:1
 returns : tie.Need-returns
 returns c = c .before .before .before .before .before .charge-listed .ensures
 

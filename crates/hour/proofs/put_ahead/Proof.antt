@@ -1,20 +1,17 @@
-use Rattle.units.specs.Units.{wholeHour}
-use Rattle.ints.proofs.Tables.{tab-none, tab-store, tab-done}
-use Rattle.ints.proofs.Sizes.{w-read}
-use Rattle.ints.specs.Table.{_at_, tab}
-use Rattle.ints.specs.Number.{Within}
-use borrow.Author.Needs.{needs}
-use lib.ListN.{length, take}
-use lib.IntN.{ℤ, pos}
-use native.Mathlib.Omega.{arith}
-use Prim.Native.Nat.{ℕ, _-_, _≤_}
+-- `hour::put_ahead` meets its contract. Assumes nothing.
 use mathlib.Core.Path.{_≡_, sym, ap, _∙_, subst}
+use Prim.Native.Nat.{_-_, _≤_}
+use native.Mathlib.Omega.{arith}
+use lib.IntN.{ℤ}
+use lib.ListN.{length, take}
+use borrow.Author.Needs.{needs}
+use Rattle.ints.specs.Number.{Within}
+use Rattle.ints.specs.Table.{_at_, tab}
+use Rattle.ints.proofs.Sizes.{w-read}
+use Rattle.ints.proofs.Tables.{tab-none, tab-store, tab-done}
+use Rattle.units.specs.Units.{wholeHour}
 use Rattle.hour.proofs.put_ahead.Statement.{statement}
 use Rattle.hour.proofs.put_ahead.Tie as tie
-use Rattle.hour.proofs.put_ahead.Reads as reads
-use Rattle.hour.proofs.put_ahead.Lts as lts
-use Rattle.hour.proofs.put.Reads as put-reads
-use Rattle.units.proofs.whole_hour.Reads as whole-hour-reads
 
 abbrev Inv-loop : tie.InvT-loop
 Inv-loop ahead weights₀ l₀ weights l = (l ≤ length ahead) × (length weights ≡ length weights₀) × (take l weights ≡ tab (λ i. wholeHour (ahead at i)) l)
@@ -22,48 +19,40 @@ Inv-loop ahead weights₀ l₀ weights l = (l ≤ length ahead) × (length weigh
 abbrev μ-loop : tie.MeasureT-loop
 μ-loop ahead weights₀ l₀ weights l = length ahead - l
 
--- src/lib.rt:57:5
 loop-holds : tie.Need-loop-holds Inv-loop μ-loop
 loop-holds c = (search needs, search needs, tab-none _)
 
--- src/lib.rt:58:49
 mul-t4 : tie.Need-mul-t4 Inv-loop μ-loop
 mul-t4 c = search needs
 
--- src/lib.rt:58:49
 shared-slice-copy-out-t11 : tie.Need-shared-slice-copy-out-t11 Inv-loop μ-loop
 shared-slice-copy-out-t11 c = search needs
 
--- src/lib.rt:58:25
 whole-hour-requires : tie.Need-whole-hour-requires Inv-loop μ-loop
 whole-hour-requires c κs = let a = c .before .before .before in
     subst (λ (z : ℤ). Within z 5000000) (sym (w-read (a .before .pre .1 .each (a .loop .l)) tt)) (a .before .pre .1 .each (a .loop .l))
 
--- src/lib.rt:58:9
 put-requires : tie.Need-put-requires Inv-loop μ-loop
 put-requires c κs = let a = c .before .before .before .before in omega (arith, a .loop .inv .1, a .before .pre .0)
 
--- src/lib.rt:59:9
 add-l : tie.Need-add-l Inv-loop μ-loop
 add-l c = search needs
 
--- src/lib.rt:57:5
 loop-less : tie.Need-loop-less Inv-loop μ-loop
 loop-less c = search needs
 
--- src/lib.rt:57:5
 loop-again : tie.Need-loop-again Inv-loop μ-loop
 loop-again c = let h = c .before .before in
     let a = h .before .before .before .before in
-    let made = h .whole-hour .ensures ∙ ap wholeHour (w-read (a .before .pre .1 .each (a .loop .l)) tt) in
-    (search needs, search needs,
-    rw (c .before .put .ensures) (tab-store _ (a .loop .weights) (a .loop .l) _ (omega (arith, a .loop .inv .1, a .before .pre .0)) made (a .loop .inv .2)))
+    let made = h .whole-hour .ensures ∙ ap wholeHour (w-read (a .before .pre .1 .each (a .loop .l)) tt) in (
+      search needs,
+      search needs,
+      rw (c .before .put .ensures) (tab-store _ (a .loop .weights) (a .loop .l) _ (omega (arith, a .loop .inv .1, a .before .pre .0)) made (a .loop .inv .2)),
+    )
 
--- src/lib.rt:52:1
 same-length : tie.Need-same-length Inv-loop μ-loop
 same-length c = c .before .loop .inv .1
 
--- src/lib.rt:52:1
 returns : tie.Need-returns Inv-loop μ-loop
 returns c = let a = c .before in
     let long : length (a .loop .weights) ≡ a .loop .l = omega (arith, a .loop .inv .1, a .before .pre .0) in

@@ -1,7 +1,7 @@
 -- `hour::weigh` meets its contract. Assumes nothing.
 use mathlib.Core.Path.{_≡_, sym, ap, _∙_, subst}
 use mathlib.Core.List.{List}
-use Prim.Native.Nat.{ℕ, _*_, _-_, _≤_, _<_}
+use Prim.Native.Nat.{ℕ, _-_, _≤_, _<_}
 use native.Mathlib.Omega.{arith}
 use lib.IntN.{ℤ}
 use lib.ListN.{length}
@@ -39,9 +39,11 @@ put-ahead-requires c κs = (c .before .pre .ahead-length, c .before .pre .ahead-
 loop-holds : tie.Need-loop-holds Inv-loop μ-loop
 loop-holds c = let s = c .before .before .before in
     let e = c .before .put-ahead .ensures in
-    let n = ap length e ∙ length-tab _ _ in
-    (search needs, subst (λ (n : ℕ). Listed n (s .args .ahead .now) (s .args .real .now)) (sym n) (s .pre),
-    e ∙ weights-none _ _ _ (s .pre) ∙ ap (λ (n : ℕ). tab (sofar (priceList n (s .args .ahead .now) (s .args .real .now)) 0) n) (sym n))
+    let n = ap length e ∙ length-tab _ _ in (
+      search needs,
+      subst (λ (n : ℕ). Listed n (s .args .ahead .now) (s .args .real .now)) (sym n) (s .pre),
+      e ∙ weights-none _ _ _ (s .pre) ∙ ap (λ (n : ℕ). tab (sofar (priceList n (s .args .ahead .now) (s .args .real .now)) 0) n) (sym n),
+    )
 
 interval-prices-requires : tie.Need-interval-prices-requires Inv-loop μ-loop
 interval-prices-requires c κs = let a = c .before in (search needs, omega (arith, a .loop .inv .1 .real-length, long a))
