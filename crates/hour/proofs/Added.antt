@@ -1,9 +1,9 @@
 -- Rows, then transactions, added to totals that were 0. Assumes nothing.
-use mathlib.Core.Path.{_≡_, refl, ap, _∙_}
+use mathlib.Core.Path.{_≡_, ap, _∙_}
 use mathlib.Core.List.{List}
-use Prim.Native.Nat.{ℕ, zero}
+use Prim.Native.Nat.{ℕ}
 use native.Mathlib.Omega.{arith}
-use lib.IntN.{ℤ, pos, negsuc, natAbs, _+ℤ_, +ℤ-idl}
+use lib.IntN.{ℤ, pos, negsuc, _+ℤ_, +ℤ-idl}
 use Rattle.ints.specs.Every.{owed, Added}
 use Rattle.ints.specs.Number.{Within}
 use Rattle.ints.specs.Table.{_at_}

@@ -7,7 +7,6 @@ use native.Mathlib.Omega.{arith}
 use lib.Dec.{eqb}
 use borrow.Author.Tests.{eq-eqb, eqb-true}
 use Rattle.ints.specs.Refusal.{unless}
-use Rattle.ints.specs.Turn.{_then_}
 use Rattle.ints.proofs.Turns.{then-ends, then-later}
 use Rattle.exercise.specs.File.{throughLength}
 use Rattle.hour.specs.Charges.{participants}

@@ -1,10 +1,9 @@
 -- The parts of a file that passes the order to its length, as they were read. Assumes nothing.
-use mathlib.Core.Path.{_≡_, sym, ap, _∙_, subst}
+use mathlib.Core.Path.{_≡_, ap, _∙_, subst}
 use mathlib.Core.List.{List}
 use Prim.Native.Nat.{ℕ, _≤_}
 use native.Mathlib.Omega.{arith}
 use lib.IntN.{ℤ}
-use lib.ListN.{length}
 use Rattle.rows.specs.Row.{rowsIn}
 use Rattle.rows.specs.Transaction.{transactionsIn}
 use Rattle.rows.specs.declared.Row.{Row}
@@ -12,7 +11,7 @@ use Rattle.rows.specs.declared.Transaction.{Transaction}
 use Rattle.exercise.specs.File.{header, placesOf, places, part, rows, transactions, throughLength, fromPrices}
 use Rattle.exercise.specs.declared.Header.{Header}
 use Rattle.exercise.specs.declared.Places.{Places}
-use Rattle.exercise.proofs.Whole.{Found, found, Whole, whole, small-read, part-length}
+use Rattle.exercise.proofs.Whole.{found, whole, small-read, part-length}
 use Rattle.hour.specs.Charges.{congestionPrices, lossPrices}
 use Rattle.hour.specs.Given.{Parts, partsRefusal, congestionIn, lossIn, Charged, Shared}
 

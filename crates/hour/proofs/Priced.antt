@@ -1,6 +1,6 @@
 -- All prices of a stretch, read into one table: tested there, and cut into the day-ahead and real-time prices of congestion and of losses. Assumes nothing.
 use mathlib.Core.Path.{_≡_, sym, ap, ap₂, _∙_, subst}
-use mathlib.Core.Bool.{Bool, true, false}
+use mathlib.Core.Bool.{Bool}
 use mathlib.Core.List.{List}
 use Prim.Native.Nat.{ℕ, _+_, _*_, _-_, _≤_, _<_}
 use native.Mathlib.Omega.{arith}
@@ -11,7 +11,6 @@ use Rattle.ints.specs.Number.{between}
 use Rattle.ints.specs.Range.{InRange}
 use Rattle.ints.specs.Refusal.{unless}
 use Rattle.ints.specs.Table.{_at_, tab, all}
-use Rattle.ints.specs.Turn.{inTurn}
 use Rattle.ints.proofs.Eachs.{turn-all}
 use Rattle.ints.proofs.Ranges.{cut-range}
 use Rattle.ints.proofs.Tables.{length-tab, getD-tab, tab-ext}

@@ -1,11 +1,10 @@
 -- What holds of every accepted hour. Assumes nothing.
 use mathlib.Core.Path.{_≡_, refl, sym, ap, ap₂, _∙_, subst}
 use mathlib.Core.List.{List}
-use Prim.Native.Nat.{ℕ, _+_, _*_, _≤_}
+use Prim.Native.Nat.{ℕ, _*_, _≤_}
 use native.Mathlib.Omega.{arith}
-use lib.IntN.{ℤ, pos, _+ℤ_}
+use lib.IntN.{ℤ, pos}
 use lib.ListN.{length}
-use Rattle.ints.specs.Every.{Every, owed}
 use Rattle.ints.specs.Number.{Within}
 use Rattle.ints.specs.Range.{InRange}
 use Rattle.ints.specs.Sum.{sumTo}
@@ -17,14 +16,13 @@ use Rattle.ints.proofs.Tables.{length-tab, getD-tab}
 use Rattle.ints.proofs.Turns.{then-none}
 use Rattle.units.specs.Units.{centsOf}
 use Rattle.split.specs.Fair.{Fair}
-use Rattle.split.proofs.Laws.{length-parts}
 use Rattle.rows.specs.Row.{rowAt}
 use Rattle.rows.specs.Transaction.{transactionAt}
 use Rattle.rows.specs.declared.Row.{Row}
 use Rattle.rows.specs.declared.Transaction.{Transaction}
-use Rattle.exercise.specs.File.{header, rows, transactions, priceCount, pricePart, rowPart, transactionPart, congestionAhead, congestionReal, lossAhead, lossReal, throughLength, fromPrices, fileRefusal}
+use Rattle.exercise.specs.File.{header, rows, transactions, priceCount, pricePart, rowPart, transactionPart, congestionAhead, congestionReal, lossAhead, lossReal, throughLength, fromPrices}
 use Rattle.exercise.specs.Price.{pricesRefusal}
-use Rattle.exercise.proofs.Accepted.{Tested, tested}
+use Rattle.exercise.proofs.Accepted.{tested}
 use Rattle.exercise.proofs.Whole.{small, whole}
 use Rattle.tariff.specs.Parts.{aheadWeight, ownRows, ownTransactions}
 use Rattle.tariff.specs.Tariff.{Prices, priceList, charge}

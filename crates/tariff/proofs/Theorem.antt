@@ -14,7 +14,7 @@ use Rattle.ints.proofs.Gather.{every-map, Σ-minus, Σ-only-mul, Σ-only-scale,
 use Rattle.ints.proofs.Sums.{Σ-ext, sumTo-ext}
 use Rattle.rows.specs.declared.Row.{Row}
 use Rattle.rows.specs.declared.Transaction.{Transaction}
-use Rattle.tariff.specs.Parts.{sign, aheadWeight, weight, rowPart, transactionPart, rowParts, transactionParts, RowPlaced, TransactionPlaced}
+use Rattle.tariff.specs.Parts.{sign, aheadWeight, rowPart, transactionPart, rowParts, transactionParts, RowPlaced, TransactionPlaced}
 use Rattle.tariff.specs.Tariff.{Prices, P, C, A, B, D, E, withdraws, injects, ownRow, ownTransaction, withdrawn, injected, carried, aheadAt, realAt, aheadPath, realPath, positions, paths, charge}
 use Rattle.tariff.proofs.Forms.{ahead-form, real-form, path-form}
 use Rattle.tariff.proofs.Terms.{factor, by-market, apart, hours}

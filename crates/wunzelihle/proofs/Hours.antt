@@ -1,24 +1,24 @@
 -- The hour's order over slices: eight bytes for each participant. Assumes nothing.
-use mathlib.Core.Path.{_≡_, refl, sym, ap, ap₂, _∙_}
+use mathlib.Core.Path.{_≡_, refl, ap, ap₂, _∙_}
 use mathlib.Core.Bool.{Bool, true, false, _&&_}
 use mathlib.Core.List.{List}
 use Prim.Native.Nat.{ℕ, _*_, _/_, _%_, _≤_}
 use native.Mathlib.Omega.{arith}
-use lib.Dec.{eqb, leb}
+use lib.Dec.{eqb}
 use borrow.Author.Tests.{le-leb, eq-eqb, eqb-true}
-use Rattle.ints.specs.Refusal.{pick, unless}
+use Rattle.ints.specs.Refusal.{pick}
 use Rattle.ints.specs.Turn.{_then_}
-use Rattle.ints.proofs.Bools.{same, and-true}
+use Rattle.ints.proofs.Bools.{same}
 use Rattle.ints.proofs.Refusals.{passed}
 use Rattle.ints.proofs.Turns.{then-none}
-use Rattle.exercise.specs.File.{header, throughLength}
+use Rattle.exercise.specs.File.{throughLength}
 use Rattle.exercise.proofs.Whole.{small}
 use Rattle.hour.specs.Charges.{participants}
 use Rattle.hour.specs.Order.{outputs, hourRefusal, wholeRefusal}
 use Rattle.hour.proofs.Parts.{some-participant}
 use Rattle.wunzelihle.specs.Hour.{settleRefusal, hourly}
-use Rattle.wunzelihle.specs.Load.{whole, listed}
-use Rattle.wunzelihle.proofs.Lists.{is-whole, fits}
+use Rattle.wunzelihle.specs.Load.{listed}
+use Rattle.wunzelihle.proofs.Lists.{is-whole}
 
 -- ---- a slice
 

@@ -2,8 +2,6 @@
 -- Assumes nothing.
 use mathlib.Core.List.{List}
 use Prim.Native.Nat.{ℕ, _*_, _/_}
-use lib.Dec.{leb}
-use lib.ListN.{length}
 use Rattle.ints.specs.Refusal.{pick}
 use Rattle.ints.specs.Turn.{_then_}
 use Rattle.exercise.specs.File.{throughLength}
