@@ -194,9 +194,9 @@ fn settle_into(
     ensures { λ r. ⌜ now (credit .exit) ≡ lent r (encoded (credits (now (file .entry)))) (now (credit .entry)) ⌝ }
     ensures { λ r. ⌜ now (net .exit) ≡ lent r (encoded (nets (now (file .entry)))) (now (net .entry)) ⌝ }
 {
-    let refusal = hour::settle(file, congestion_cents, loss_cents, credit_cents, net_cents);
-    if refusal != 0 {
-        return refusal;
+    let answer = hour::settle(file, congestion_cents, loss_cents, credit_cents, net_cents);
+    if answer != 0 {
+        return answer;
     }
     numbers::write_all(congestion_cents, congestion);
     numbers::write_all(loss_cents, loss);
