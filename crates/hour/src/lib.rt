@@ -5,7 +5,6 @@ ghost use lib.IntN.{pos, _+ℤ_, _-ℤ_};
 ghost use lib.ListN.{length, set};
 ghost use mir.Syntax.{w64};
 ghost use mir.Val.{SFits};
-ghost use Rattle.ints.specs.Number.{Within};
 ghost use Rattle.ints.specs.Range.{InRange};
 ghost use Rattle.ints.specs.Refusal.{lent};
 ghost use Rattle.ints.specs.Table.{_at_, tab};

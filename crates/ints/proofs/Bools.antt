@@ -29,3 +29,11 @@ or-right false b e = e
 pub and-true : (a b : Bool) → (a && b) ≡ true → (a ≡ true) × (b ≡ true)
 and-true true b e = (refl, e)
 and-true false b e = absurd (not-both (sym e))
+
+pub and-grouped : (a b c : Bool) → (a && (b && c)) ≡ (a && b && c)
+and-grouped true b c = refl
+and-grouped false b c = refl
+
+pub and-last : (a : Bool) → (a && true) ≡ a
+and-last true = refl
+and-last false = refl

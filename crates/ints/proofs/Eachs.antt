@@ -13,7 +13,7 @@ use Rattle.ints.specs.Each.{allTo}
 use Rattle.ints.specs.Refusal.{pick, unless}
 use Rattle.ints.specs.Table.{tab, all}
 use Rattle.ints.specs.Turn.{_then_, inTurn}
-use Rattle.ints.proofs.Bools.{and-true}
+use Rattle.ints.proofs.Bools.{and-true, and-grouped, and-last}
 
 module _ (t : ℕ → Bool) where
   -- a loop that tests one after the other: before the first, one more that passes, one that fails
@@ -57,16 +57,8 @@ all-each t d (x ∷ xs) h = ap₂ _&&_ (h 0 (omega arith)) (all-each t d xs (λ 
 -- one element more, at the end
 all-last : {A : Type 0} (t : A → Bool) (xs : List A) (x : A) → all t (xs ++ (x ∷ [])) ≡ (all t xs && t x)
 unfolding all
-all-last t [] x = and-true-right (t x)
-  where
-    and-true-right : (b : Bool) → (b && true) ≡ b
-    and-true-right true = refl
-    and-true-right false = refl
-all-last t (y ∷ ys) x = ap (λ (b : Bool). t y && b) (all-last t ys x) ∙ sym (and-assoc (t y) (all t ys) (t x))
-  where
-    and-assoc : (a b c : Bool) → (a && b && c) ≡ (a && (b && c))
-    and-assoc true b c = refl
-    and-assoc false b c = refl
+all-last t [] x = and-last (t x)
+all-last t (y ∷ ys) x = ap (λ (b : Bool). t y && b) (all-last t ys x) ∙ and-grouped (t y) (all t ys) (t x)
 
 -- things that are refused by one number, in turn: that number unless all pass
 pub turn-all : {A : Type 0} (t : A → Bool) (g : ℕ → A) (k n : ℕ) → inTurn (λ i. unless (t (g i)) (suc k) 0) n ≡ unless (all t (tab g n)) (suc k) 0

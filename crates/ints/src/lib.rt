@@ -1,5 +1,6 @@
 // A number by its size and its sign; numbers in a range.
 ghost use mathlib.Core.Path.{_≡_};
+ghost use mathlib.Core.Bool.{_&&_};
 ghost use Prim.Native.Nat.{_<_};
 ghost use lib.IntN.{natAbs};
 ghost use Rattle.ints.specs.Number.{below0, signed, between};
@@ -45,16 +46,22 @@ pub fn is_between(x: i64, low: i64, high: i64) -> bool
     low <= x && x <= high
 }
 
-// Whether all numbers of a list are low to high.
+// Whether both hold.
+fn both(a: bool, b: bool) -> bool
+    ensures { λ r. ⌜ r ≡ (a && b) ⌝ }
+{
+    a && b
+}
+
+// Whether all numbers of a list are low to high. It goes to the list's end in any case, so that numbers are tested several at a time.
 pub fn all_between(list: &[i64], low: i64, high: i64) -> bool
     ensures { λ r. ⌜ r ≡ all (between low high) (now (list .entry)) ⌝ }
 {
+    let mut passed = true;
     let mut i: usize = 0;
     while i < list.len() {
-        if !is_between(list[i], low, high) {
-            return false;
-        }
+        passed = both(passed, is_between(list[i], low, high));
         i += 1;
     }
-    true
+    passed
 }

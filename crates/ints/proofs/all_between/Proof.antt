@@ -1,5 +1,5 @@
 -- `ints::all_between` meets its contract. Assumes nothing.
-use mathlib.Core.Path.{_≡_, sym, ap, _∙_}
+use mathlib.Core.Path.{_≡_, refl, sym, ap, _∙_}
 use mathlib.Core.Bool.{Bool, _&&_}
 use Prim.Native.Nat.{_+_, _-_, _≤_}
 use lib.IntN.{ℤ, pos}
@@ -8,18 +8,18 @@ use mir.Syntax.{w64}
 use mir.Val.{toZ, ofZ}
 use mir.Facts.{toZ-ofZ}
 use borrow.Author.Needs.{needs, sfits-of}
-use borrow.Author.Tests.{not-true, not-false}
 use Rattle.ints.specs.Number.{between}
 use Rattle.ints.specs.Table.{all}
+use Rattle.ints.proofs.Bools.{and-grouped, and-last}
 use Rattle.ints.proofs.Tables.{all-next, all-none}
 use Rattle.ints.proofs.all_between.Statement.{statement}
 use Rattle.ints.proofs.all_between.Tie as tie
 
 abbrev Inv-loop : tie.InvT-loop
-Inv-loop list low high i₀ i = (i ≤ length list) × (all (between (toZ w64 low) (toZ w64 high)) list ≡ all (between (toZ w64 low) (toZ w64 high)) (drop i list))
+Inv-loop list low high passed₀ i₀ passed i = (i ≤ length list) × (all (between (toZ w64 low) (toZ w64 high)) list ≡ (passed && all (between (toZ w64 low) (toZ w64 high)) (drop i list)))
 
 abbrev μ-loop : tie.MeasureT-loop
-μ-loop list low high i₀ i = length list - i
+μ-loop list low high passed₀ i₀ passed i = length list - i
 
 -- the range, of the bits that the two locals hold, and the test of an element
 abbrev test : tie.Start Inv-loop μ-loop → ℤ → Bool
@@ -34,7 +34,7 @@ tested c =
     sym (c .is-between .ensures ∙ ap (test (l .before)) (toZ-ofZ {w = w64} (sfits-of (c .before .is-between-arg .given))))
 
 loop-holds : tie.Need-loop-holds Inv-loop μ-loop
-loop-holds c = search needs
+loop-holds c = (search needs, refl)
 
 mul-is-between : tie.Need-mul-is-between Inv-loop μ-loop
 mul-is-between c = search needs
@@ -45,11 +45,8 @@ shared-slice-copy-out-is-between c = search needs
 is-between-requires : tie.Need-is-between-requires Inv-loop μ-loop
 is-between-requires c κs = search needs
 
-returns : tie.Need-returns Inv-loop μ-loop
-returns c = let l = c .before .before .before .before in
-    let s = l .before in
-    let list = s .args .list .now in
-    sym (whole s ∙ (l .loop .inv .1 ∙ (all-next (test s) (pos 0) list (l .loop .i) (search needs) ∙ ap (λ (b : Bool). b && all (test s) (drop (l .loop .i + 1) list)) (tested (c .before) ∙ not-true _ (c .if1 .taken)))))
+both-requires : tie.Need-both-requires Inv-loop μ-loop
+both-requires c κs = search needs
 
 add-i : tie.Need-add-i Inv-loop μ-loop
 add-i c = search needs
@@ -58,15 +55,22 @@ loop-less : tie.Need-loop-less Inv-loop μ-loop
 loop-less c = search needs
 
 loop-again : tie.Need-loop-again Inv-loop μ-loop
-loop-again c =
-    let l = c .before .before .before .before in
+loop-again c = let t = c .before in
+    let l = t .before .before .before in
     let s = l .before in
     let list = s .args .list .now in
-    (search needs, l .loop .inv .1 ∙ (all-next (test s) (pos 0) list (l .loop .i) (search needs) ∙ ap (λ (b : Bool). b && all (test s) (drop (l .loop .i + 1) list)) (tested (c .before) ∙ not-false _ (c .if1 .left))))
+    let rest = all (test s) (drop (l .loop .i + 1) list) in (
+      search needs,
+      l .loop .inv .1
+          ∙ ap (λ (b : Bool). l .loop .passed && b) (all-next (test s) (pos 0) list (l .loop .i) (search needs) ∙ ap (λ (b : Bool). b && rest) (tested t))
+          ∙ and-grouped (l .loop .passed) (t .is-between .result) rest
+          ∙ ap (λ (b : Bool). b && rest) (sym (c .both .ensures)),
+    )
 
-returns-2 : tie.Need-returns-2 Inv-loop μ-loop
-returns-2 c = let l = c .before in
-    sym (whole (l .before) ∙ (l .loop .inv .1 ∙ all-none (test (l .before)) (pos 0) (l .before .args .list .now) (l .loop .i) (search needs)))
+returns : tie.Need-returns Inv-loop μ-loop
+returns c = let l = c .before in
+    let s = l .before in
+    sym (whole s ∙ l .loop .inv .1 ∙ ap (λ (b : Bool). l .loop .passed && b) (all-none (test s) (pos 0) (s .args .list .now) (l .loop .i) (search needs)) ∙ and-last (l .loop .passed))
 
 pub all-between-spec : {M : Type 1} → statement M
 all-between-spec =
@@ -78,8 +82,8 @@ all-between-spec =
     mul-is-between
     shared-slice-copy-out-is-between
     is-between-requires
-    returns
+    both-requires
     add-i
     loop-less
     loop-again
-    returns-2)
+    returns)
