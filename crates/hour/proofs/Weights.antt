@@ -11,8 +11,9 @@ use lib.Seq.{getD-take}
 use Rattle.ints.specs.Number.{Within}
 use Rattle.ints.specs.Range.{InRange}
 use Rattle.ints.specs.Refusal.{pick}
-use Rattle.ints.specs.Sum.{sumTo, only}
+use Rattle.ints.specs.Sum.{sumTo}
 use Rattle.ints.specs.Table.{_at_, tab}
+use Rattle.ints.proofs.Adding.{only-within}
 use Rattle.ints.proofs.Ranges.{drop-range, cut-range, tab-range, room}
 use Rattle.ints.proofs.Sizes.{w-sub, w-mul, w-lit, w-up}
 use Rattle.ints.proofs.Sums.{sumTo-zero, sumTo-next, sumTo-abs}
@@ -122,8 +123,4 @@ module _ {locations : ℕ} {weights real : List ℤ} (h : Tables locations weigh
 -- ---- a share grows by at most 20,000,000 kW
 
 pub share-range : (r : Row) → r .kw .0 ≤ 20000000 → Within (shareKw r) 20000000
-share-range r h = by (isShare (r .market) (r .kind))
-  where
-    by : (b : Bool) → Within (only b (pos (r .kw .0))) 20000000
-    by true = record { within = h }
-    by false = w-lit tt
+share-range r h = only-within (isShare (r .market) (r .kind)) (record { within = h })

@@ -49,6 +49,11 @@ unfolding owed
 owed-ext owner f g h xs e p =
     Σ-ext-on (λ x. only (eqb (owner x) p) (f x)) (λ x. only (eqb (owner x) p) (g x)) (λ x q. ap (λ (z : ℤ). only (eqb (owner x) p) z) (h x q)) xs e
 
+-- what is within a bound, or left out
+pub only-within : (b : Bool) {z : ℤ} {k : ℕ} → Within z k → Within (only b z) k
+only-within true w = w
+only-within false w = w-up (w-lit {x = pos 0} {k = 0} tt) (omega arith)
+
 -- ---- a total
 
 -- a number added at q is added there alone
@@ -89,13 +94,9 @@ module _ {A : Type 0} (owner : A → ℕ) (f : A → ℤ) (g : ℕ → A) (first
             ∙ +ℤ-assoc (before at p) (owed owner f (tab g i) p) (only (eqb (owner x) p) (f x))
             ∙ ap (λ (y : ℤ). before at p +ℤ y) (ap (λ (x : A). owed owner f (tab g i) p +ℤ only (eqb (owner x) p) (f x)) (sym is) ∙ sym (owed-next owner f p g i));
       };
-      range = record { each = λ p. subst (λ (y : ℤ). Within y (first + (i + 1) * size)) (sym (at-next p)) (w-up (w-add (a .range .each p) (chosen (eqb (owner x) p))) (omega arith)) };
+      range = record { each = λ p. subst (λ (y : ℤ). Within y (first + (i + 1) * size)) (sym (at-next p)) (w-up (w-add (a .range .each p) (only-within (eqb (owner x) p) w)) (omega arith)) };
       long = ap length stored ∙ length-set totals (owner x) _ ∙ a .long;
     }
-      where
-        chosen : (b : Bool) → Within (only b z) size
-        chosen true = w
-        chosen false = w-up (w-lit {x = pos 0} {k = 0} tt) (omega arith)
 
   -- in the loop every total is within a bound
   pub adding-range : {before totals : List ℤ} {i : ℕ} → Adding before i totals → (n last : ℕ) → i ≤ n → first + n * size ≤ last → InRange totals last
@@ -109,8 +110,4 @@ module _ {A : Type 0} (owner : A → ℕ) (f : A → ℤ) (g : ℕ → A) (first
 pub owed-within : {A : Type 0} {P : A → Type 0} (owner : A → ℕ) (f : A → ℤ) (k : ℕ) → ((x : A) → P x → Within (f x) k) → (xs : List A) → Every P xs → (p : ℕ) → Within (owed owner f xs p) (length xs * k)
 unfolding owed Σℤ
 owed-within owner f k h [] e p = w-up (w-lit {x = pos 0} {k = 0} tt) (omega arith)
-owed-within {P = P} owner f k h (x ∷ xs) e p = w-up (w-add (chosen (eqb (owner x) p)) (owed-within owner f k h xs (e .1) p)) (omega arith)
-  where
-    chosen : (b : Bool) → Within (only b (f x)) k
-    chosen true = h x (e .0)
-    chosen false = w-up (w-lit {x = pos 0} {k = 0} tt) (omega arith)
+owed-within {P = P} owner f k h (x ∷ xs) e p = w-up (w-add (only-within (eqb (owner x) p) (h x (e .0))) (owed-within owner f k h xs (e .1) p)) (omega arith)

@@ -1,8 +1,8 @@
 -- Contracts and what remains, handed out one by one: the table after so many. Assumes nothing.
 use mathlib.Core.Path.{_≡_, refl, sym, ap, ap₂, _∙_, subst}
 use mathlib.Core.Logic.{⊎-elim}
-use mathlib.Core.List.{List}
 use mathlib.Core.Bool.{Bool, true, false}
+use mathlib.Core.List.{List}
 use Prim.Native.Nat.{ℕ, _+_, _*_, _-_, _≤_, _<_}
 use native.Mathlib.Omega.{arith}
 use lib.Dec.{ltb, eqb}
@@ -13,17 +13,18 @@ use Rattle.ints.specs.Number.{Within}
 use Rattle.ints.specs.Refusal.{pick}
 use Rattle.ints.specs.Sum.{sumTo, sumN, only}
 use Rattle.ints.specs.Table.{_at_}
+use Rattle.ints.proofs.Adding.{only-within}
 use Rattle.ints.proofs.Bools.{either}
 use Rattle.ints.proofs.Diff.{_⊖_, ⊖-eq, ⊖-laws, pos-⊖}
 use Rattle.ints.proofs.Signs.{signed-sum}
 use Rattle.ints.proofs.Sizes.{w-up}
 use Rattle.ints.proofs.Sums.{sumTo-zero, sumTo-next, sumTo-ext, sumTo-abs}
 use Rattle.split.specs.Split.{total, part, parts}
+use Rattle.load.specs.Facts.{Splits, Tables, Contracts, Empty, Auction, Ranged, Remainings}
 use Rattle.load.specs.Load.{supplier, area, kw, count, partsOf, contractAt, contracted, auctioned}
 use Rattle.load.specs.Table.{Cells, Added}
-use Rattle.load.specs.Facts.{Splits, Tables, Contracts, Empty, Auction, Ranged, Remainings}
-use Rattle.load.proofs.Tables.{only-within, added-none, added-then, added-same, added-cells}
 use Rattle.load.proofs.Splits.{length-stretch, part-within, part-natural, splits-of}
+use Rattle.load.proofs.Tables.{added-none, added-then, added-same, added-cells}
 
 only-zero : (t : Bool) → only t (pos 0) ≡ pos 0
 only-zero true = refl

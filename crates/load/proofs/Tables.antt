@@ -1,38 +1,23 @@
 -- Laws of the table: parts added one by one, by rows and by columns. Assumes nothing.
 use mathlib.Core.Path.{_≡_, refl, sym, ap, ap₂, _∙_, subst}
-use mathlib.Core.List.{List, _++_}
 use mathlib.Core.Bool.{Bool, true, false, _&&_, and-true as and-unit, and-false, and-comm}
+use mathlib.Core.List.{List, _++_}
 use Prim.Native.Nat.{ℕ, zero, suc, _+_, _*_, _/_, _%_, _≤_, _<_}
 use native.Mathlib.Nat.{mul-add-div-right, mul-add-mod-self-right, div-eq-of-lt, mod-eq-of-lt, mul-one, add-comm, suc-mul, mul-le-mul-right}
 use native.Mathlib.Omega.{arith}
 use lib.Dec.{eqb}
 use lib.IntN.{ℤ, pos, _+ℤ_, +ℤ-idl, +ℤ-idr, +ℤ-assoc}
 use lib.ListN.{length, set, take, drop, replicate, length-set, take-append-drop}
-use lib.Seq.{getD-set-same, getD-set-other}
-use borrow.Author.Tests.{eq-eqb, ne-eqb, eqb-true, eqb-false}
+use borrow.Author.Tests.{eq-eqb, ne-eqb, eqb-true}
 use Rattle.ints.specs.Number.{Within}
 use Rattle.ints.specs.Refusal.{pick, lent}
 use Rattle.ints.specs.Sum.{sumTo, only}
 use Rattle.ints.specs.Table.{_at_}
+use Rattle.ints.proofs.Adding.{added, only-within}
 use Rattle.ints.proofs.Bools.{same, and-true}
 use Rattle.ints.proofs.Sizes.{w-add, w-lit, w-up}
 use Rattle.ints.proofs.Sums.{sumTo-zero, sumTo-next, sumTo-only, sumTo-abs}
 use Rattle.load.specs.Table.{InRange, Room, Spread, cell, Cells, Added}
-
--- a number added at q is added there alone
-added-at : (xs : List ℤ) (q : ℕ) (z : ℤ) (k : ℕ) → q < length xs → set xs q (xs at q +ℤ z) at k ≡ xs at k +ℤ only (eqb q k) z
-added-at xs q z k l = by (eqb q k) refl
-  where
-    by : (b : Bool) → eqb q k ≡ b → set xs q (xs at q +ℤ z) at k ≡ xs at k +ℤ only b z
-    by true e =
-        ap (λ (k : ℕ). set xs q (xs at q +ℤ z) at k) (sym (eqb-true q k e)) ∙ getD-set-same xs q (xs at q +ℤ z) (pos 0) l
-        ∙ ap (λ (k : ℕ). xs at k +ℤ z) (eqb-true q k e)
-    by false e = getD-set-other xs q k (xs at q +ℤ z) (pos 0) (λ s. eqb-false q k e (sym s)) ∙ sym (+ℤ-idr (xs at k))
-
--- what is within a bound, or left out
-pub only-within : (b : Bool) {z : ℤ} {k : ℕ} → Within z k → Within (only b z) k
-only-within true w = w
-only-within false w = w-up (w-lit {x = pos 0} {k = 0} tt) (omega arith)
 
 -- ---- parts are added one by one
 
@@ -50,7 +35,7 @@ module _ {before : List ℤ} {start step : ℕ} {parts : List ℤ} where
     where
       one : (k : ℕ) → set table (start + i * step) (table at (start + i * step) +ℤ z) at k ≡ before at k +ℤ sumTo (share start step parts k) (i + 1)
       one k =
-          added-at table (start + i * step) z k l
+          added table (start + i * step) z k l
           ∙ ap₂ _+ℤ_ (s .each k) (ap (only (eqb (start + i * step) k)) e)
           ∙ +ℤ-assoc (before at k) (sumTo (share start step parts k) i) (share start step parts k i)
           ∙ ap (λ (y : ℤ). before at k +ℤ y) (sym (sumTo-next (share start step parts k) i))
@@ -118,7 +103,7 @@ pub cell-added : {before : List ℤ} (n q c : ℕ) (z : ℤ) → c < n → q * n
     → Added n (λ p b. only (eqb c b) (only (eqb q p) z)) before (set before (q * n + c) (before at (q * n + c) +ℤ z))
 cell-added {before} n q c z h r = record {
   same = length-set before (q * n + c) _;
-  each = λ p b _ l. added-at before (q * n + c) z (p * n + b) r ∙ ap (λ (y : ℤ). cell n before p b +ℤ y) (ap (λ (t : Bool). only t z) (same-place n q c p b h l) ∙ both (eqb q p) (eqb c b));
+  each = λ p b _ l. added before (q * n + c) z (p * n + b) r ∙ ap (λ (y : ℤ). cell n before p b +ℤ y) (ap (λ (t : Bool). only t z) (same-place n q c p b h l) ∙ both (eqb q p) (eqb c b));
 }
   where
     both : (s t : Bool) → only (s && t) z ≡ only t (only s z)
