@@ -256,7 +256,7 @@ uint32_t wz_assign_load(int64_t metered, int64_t distributor,
  *   WZ_NO_SHARES  the surplus isn't 0, and everybody's real-time load and
  *                 exports add up to 0
  *
- * Stack: at most 18 KB.
+ * Stack: at most 19 KB.
  */
 uint32_t wz_settle_hour(const uint8_t *file, size_t file_len,
                         uint8_t *congestion, size_t congestion_len,
