@@ -4,8 +4,8 @@ use Prim.Native.Nat.{ℕ}
 use lib.Dec.{eqb}
 use lib.IntN.{ℤ, pos}
 use Rattle.ints.specs.Sum.{only}
+use Rattle.rows.specs.Row.{realTime}
 use Rattle.rows.specs.declared.Row.{Row}
-use Rattle.tariff.specs.Tariff.{realTime}
 
 -- "by real-time load and exports (document 002: load plus exports)": kinds 0 and 2. Decrement bids are day-ahead only
 abbrev pub isShare : ℕ → ℕ → Bool

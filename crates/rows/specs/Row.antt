@@ -34,6 +34,9 @@ rowSpare v = field 48 v 45 3
 abbrev pub dayAhead : ℕ
 dayAhead = 0
 
+abbrev pub realTime : ℕ
+realTime = 1
+
 -- "Kinds: 0 load, 1 generation, 2 export, 3 import, 4 decrement bid, 5 increment offer; 6 and 7 don't exist"; "4 and 5 are day-ahead only"
 abbrev pub hasKind : ℕ → ℕ → Bool
 hasKind market kind = pick (eqb market dayAhead) (leb kind 5) (leb kind 3)

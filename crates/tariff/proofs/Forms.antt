@@ -5,9 +5,10 @@ use Prim.Native.Nat.{ℕ}
 use lib.IntN.{ℤ, _-ℤ_, _*ℤ_}
 use Rattle.ints.specs.Sum.{sumTo}
 use Rattle.ints.proofs.Gather.{sumTo-minus}
+use Rattle.rows.specs.Row.{dayAhead, realTime}
 use Rattle.rows.specs.declared.Row.{Row}
 use Rattle.rows.specs.declared.Transaction.{Transaction}
-use Rattle.tariff.specs.Tariff.{Prices, P, C, A, B, D, E, dayAhead, realTime, withdrawn, injected, carried, aheadAt, realAt, realPath, excess, shortfall}
+use Rattle.tariff.specs.Tariff.{Prices, P, C, A, B, D, E, withdrawn, injected, carried, aheadAt, realAt, realPath, excess, shortfall}
 use Rattle.tariff.proofs.Terms.{factor, above-less}
 
 module _ (prices : Prices) (rows : List Row) (p : ℕ) where

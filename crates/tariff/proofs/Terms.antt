@@ -13,8 +13,9 @@ use Rattle.ints.specs.Sum.{Σℤ, sumTo, only}
 use Rattle.ints.proofs.Diff.{_⊖_, ⊖-laws, ⊖-eq, ind2, ind3}
 use Rattle.ints.proofs.Gather.{Σ-ext-on, Σ-minus, swap, one-place}
 use Rattle.ints.proofs.Sums.{Σ-plus, sumTo-ext, sumTo-neg, sumTo-scale, sumTo-nil}
+use Rattle.rows.specs.Row.{dayAhead, realTime}
 use Rattle.rows.specs.Tested.{Timed}
-use Rattle.tariff.specs.Tariff.{dayAhead, realTime, positive, above}
+use Rattle.tariff.specs.Tariff.{positive, above}
 
 -- ---- identities of ℤ
 

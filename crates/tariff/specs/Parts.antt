@@ -8,10 +8,11 @@ use Rattle.ints.specs.Every.{keep, owed}
 use Rattle.ints.specs.Refusal.{pick}
 use Rattle.ints.specs.Sum.{sumTo, only}
 use Rattle.ints.specs.Table.{_at_}
+use Rattle.rows.specs.Row.{dayAhead}
 use Rattle.rows.specs.Tested.{Timed}
 use Rattle.rows.specs.declared.Row.{Row}
 use Rattle.rows.specs.declared.Transaction.{Transaction}
-use Rattle.tariff.specs.Tariff.{Prices, P, C, dayAhead, withdraws, injects}
+use Rattle.tariff.specs.Tariff.{Prices, P, C, withdraws, injects}
 
 -- 1 where the kind withdraws, -1 where it injects
 abbrev pub sign : ℕ → ℤ

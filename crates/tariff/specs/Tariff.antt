@@ -11,6 +11,7 @@ use lib.IntN.{ℤ, pos, negsuc, _+ℤ_, _-ℤ_, _*ℤ_}
 use lib.ListN.{drop}
 use Rattle.ints.specs.Sum.{Σℤ, sumTo, only}
 use Rattle.ints.specs.Table.{_at_}
+use Rattle.rows.specs.Row.{dayAhead, realTime}
 use Rattle.rows.specs.declared.Row.{Row}
 use Rattle.rows.specs.declared.Transaction.{Transaction}
 
@@ -34,13 +35,6 @@ abbrev pub C : Prices → ℕ → ℕ → ℤ
 C prices k l = drop (k * prices .locations) (prices .real) at l
 
 -- ---- the kW withdrawn, injected and carried
-
--- "A row is a market (day-ahead 0, real time 1), a kind, an interval, a participant, a location and kW."
-abbrev pub dayAhead : ℕ
-dayAhead = 0
-
-abbrev pub realTime : ℕ
-realTime = 1
 
 -- "Kinds: 0 load, 1 generation, 2 export, 3 import, 4 decrement bid, 5 increment offer; 6 and 7 don't exist. 0, 2, 4 withdraw; 1, 3, 5 inject. 4 and 5 are day-ahead
 -- only." A row of another kind, or of 4 or 5 in real time, is refused when it is decoded (crate `rows`)
