@@ -29,7 +29,7 @@ pub record Listed (locations : ℕ) (ahead real : List ℤ) : Type 0 where
   pub ahead-range : InRange ahead 5000000
   pub real-range : InRange real 5000000
 
--- a day-ahead weight for each of so many locations, made of 24 prices, and 12 times as many real-time prices
+-- a day-ahead weight for each of so many locations, within 24 times the largest price, and 12 times as many real-time prices
 pub record Tables (locations : ℕ) (weights real : List ℤ) : Type 0 where
   pub few : locations ≤ 64
   pub weights-length : length weights ≡ locations

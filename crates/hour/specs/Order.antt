@@ -8,7 +8,7 @@ use Rattle.exercise.specs.File.{throughLength, fromPrices}
 use Rattle.credits.specs.Paid.{paidRefusal}
 use Rattle.hour.specs.Charges.{participants, surplus, shares}
 
--- "1 output lists not as long as the participants": so many numbers has each of the four lists that are lent
+-- "1 output lists not as long as the participants": each of the four is as long as it should be, counted in numbers or, where they cross, in bytes
 unfoldable pub outputs : ℕ → ℕ → ℕ → ℕ → ℕ → ℕ
 outputs participants congestion loss credit net =
     unless (eqb congestion participants) 1

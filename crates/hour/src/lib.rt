@@ -87,7 +87,7 @@ fn weigh(ahead: &[i64], real: &[i64], weights: &mut [i64])
 
 // ---- a row, a transaction
 
-// A number of a table.
+// The price, or the weight, at a location.
 fn price_at(prices: &[i64], l: usize) -> Mills
     requires { ⌜ l < length (now prices) ⌝ }
     ensures { λ r. ⌜ r .0 ≡ now (prices .entry) at l ⌝ }
@@ -287,7 +287,7 @@ fn charge_transactions(
     0
 }
 
-// Rows, then transactions.
+// Charges rows, then transactions: the first refusal, or 0.
 fn charge_both(
     header: Header,
     rows: &[u8],
@@ -434,7 +434,7 @@ fn read_table(prices: &[u8], table: &mut [i64]) -> u32
     2
 }
 
-// The table and the weights are made in the lists that are lent for them.
+// Charges these: prices first, then rows and transactions. Table and weights are made in the lists that are lent for them.
 fn charge_priced(
     header: Header,
     prices: &[u8],
@@ -472,7 +472,7 @@ fn charge_priced(
     )
 }
 
-// With lists of its own.
+// The same, with a table and weights of its own.
 fn charge_parts(
     header: Header,
     prices: &[u8],

@@ -26,7 +26,7 @@ pub record Prices : Type 0 where
 abbrev pub priceList : ℕ → List ℤ → List ℤ → Prices
 priceList locations ahead real = record { locations = locations; ahead = ahead; real = real }
 
--- the Day-ahead Congestion Price at location l
+-- the Day-ahead Congestion Price (5.4: Loss Price) at location l
 abbrev pub P : Prices → ℕ → ℤ
 P prices l = prices .ahead at l
 
@@ -104,11 +104,12 @@ unfoldable pub aheadPath : Prices → List Transaction → ℕ → ℕ → ℕ �
 aheadPath prices transactions p source sink =
     carried transactions dayAhead 0 p source sink *ℤ (P prices sink -ℤ P prices source)
 
--- by how much x is above y, else 0
+-- z where it is above 0, else 0
 abbrev pub positive : ℤ → ℤ
 positive (pos n) = pos n
 positive (negsuc n) = pos 0
 
+-- by how much x is above y, else 0
 abbrev pub above : ℤ → ℤ → ℤ
 above x y = positive (x -ℤ y)
 
@@ -130,13 +131,13 @@ realPath prices transactions p k source sink =
 
 -- ---- the hour's charge of participant p: over all locations and paths, day-ahead and in each of the 12 intervals
 
--- rows alone: document 01 of a transaction, "It does nothing else."
-
+-- of its rows. A transaction moves no row's kW: "It does nothing else."
 unfoldable pub positions : Prices → List Row → ℕ → ℤ
 positions prices rows p =
     sumTo (λ l. pos 12 *ℤ aheadAt prices rows p l) (prices .locations)
     +ℤ sumTo (λ k. sumTo (λ l. realAt prices rows p k l) (prices .locations)) 12
 
+-- of its transactions
 unfoldable pub paths : Prices → List Transaction → ℕ → ℤ
 paths prices transactions p =
     sumTo (λ i. sumTo (λ j. pos 12 *ℤ aheadPath prices transactions p i j) (prices .locations)) (prices .locations)
