@@ -4,28 +4,29 @@ use mathlib.Core.Logic.{_≢_, ⊎-elim}
 use mathlib.Core.Bool.{Bool, true, false, _||_}
 use mathlib.Core.List.{List, [], _∷_, _++_}
 use Prim.Native.Nat.{ℕ, _+_, _≤_, _<_}
-use native.Mathlib.Decide.{decLt}
 use native.Mathlib.Nat.{eq-or-lt-of-le}
 use native.Mathlib.Numerals.{add-one}
 use native.Mathlib.Omega.{arith}
 use lib.Dec.{ltb, eqb}
 use lib.IntN.{ℤ, pos, negℤ, natAbs}
-use lib.ListN.{length, take, set, List·getD-eq-default}
+use lib.ListN.{length, take, set}
 use lib.Seq.{take-all, take-suc, take-suc-set, getD-set-other}
 use lib.Signed.{natAbs-le}
 use mir.Syntax.{w64}
 use mir.Val.{SFits}
 use borrow.Author.Tests.{le-leb, eq-eqb, ne-eqb}
 use Rattle.ints.specs.Number.{below0, signed, between}
+use Rattle.ints.specs.Range.{InRange}
 use Rattle.ints.specs.Refusal.{pick, unless}
 use Rattle.ints.specs.Table.{_at_, tab, all}
+use Rattle.ints.proofs.Ranges.{range-at}
 use Rattle.ints.proofs.Signs.{size-signed}
 use Rattle.ints.proofs.Tables.{length-tab, getD-tab, tab-none, tab-store, tab-done}
 use Rattle.units.specs.Units.{wholeCents, centsOf}
 use Rattle.split.specs.Split.{total, part, parts, refusal}
 use Rattle.split.proofs.Accepted.{accepted}
 use Rattle.split.proofs.Laws.{length-parts, part-most, no-size}
-use Rattle.credits.specs.Facts.{mostCents, InCents}
+use Rattle.credits.specs.Facts.{mostCents}
 use Rattle.credits.specs.Paid.{rounded, paidRefusal}
 
 -- ---- rounding
@@ -42,14 +43,6 @@ rounded-at exact p l = getD-tab (λ p. centsOf (exact at p)) (pos 0) (length exa
 pub cents-most : (x : ℤ) → SFits w64 x → natAbs (centsOf x) ≤ mostCents
 unfolding centsOf
 cents-most x f = omega (arith, size-signed (below0 x) (wholeCents (natAbs x)), natAbs-le x (f .sfits))
-
--- a list is in cents where each number of it is, as past its end 0 stands
-pub in-cents : (list : List ℤ) → ((p : ℕ) → p < length list → natAbs (list at p) ≤ mostCents) → InCents list
-in-cents list h = record { each = λ p. record { within = here p (decLt p (length list)) } }
-  where
-    here : (p : ℕ) → Dec (p < length list) → natAbs (list at p) ≤ mostCents
-    here p (yes l) = h p l
-    here p (no l) = omega (arith, ap natAbs (List·getD-eq-default list (pos 0) {n = p} (omega arith)))
 
 -- the first i numbers of a list are rounded, and the rest is as it was
 pub record Rounds (exact : List ℤ) (i : ℕ) (list : List ℤ) : Type 0 where
@@ -77,11 +70,11 @@ module _ (exact list : List ℤ) (i : ℕ) (r : Rounds exact i list) where
       le : (p : ℕ) → p < i + 1 → p ≤ i
       le p l = omega arith
 
-  pub rounds-done : length list ≡ i → length list ≡ length exact → (list ≡ rounded exact) × InCents list
+  pub rounds-done : length list ≡ i → length list ≡ length exact → (list ≡ rounded exact) × InRange list mostCents
   unfolding rounded
   rounds-done h s =
       let is : list ≡ rounded exact = tab-done (λ p. centsOf (exact at p)) list i h (r .front) ∙ ap (tab (λ p. centsOf (exact at p))) s in
-      (is, in-cents list (λ p l. omega (arith, ap (λ (l : List ℤ). natAbs (l at p)) is ∙ ap natAbs (rounded-at exact p (omega arith)), cents-most (exact at p) (r .known p (omega arith)))))
+      (is, range-at list mostCents (λ p l. record { within = omega (arith, ap (λ (l : List ℤ). natAbs (l at p)) is ∙ ap natAbs (rounded-at exact p (omega arith)), cents-most (exact at p) (r .known p (omega arith))) }))
 
 -- ---- copying: one number more
 
@@ -129,9 +122,9 @@ module _ (surplus : ℤ) (shares : List ℤ) (n : ℕ) (some : 1 ≤ length shar
 
 -- ---- the credits
 
-pub credits-cents : (surplus : ℤ) (shares : List ℤ) (n : ℕ) → refusal surplus shares n ≡ 0 → InCents (parts surplus shares)
+pub credits-cents : (surplus : ℤ) (shares : List ℤ) (n : ℕ) → refusal surplus shares n ≡ 0 → InRange (parts surplus shares) mostCents
 unfolding parts
-credits-cents surplus shares n e = in-cents (parts surplus shares) (λ p l. small p (omega (arith, length-parts surplus shares)))
+credits-cents surplus shares n e = range-at (parts surplus shares) mostCents (λ p l. record { within = small p (omega (arith, length-parts surplus shares)) })
   where
     part-small : (p : ℕ) → p < length shares → part (natAbs surplus) shares p ≤ 1000000001
     part-small p l =

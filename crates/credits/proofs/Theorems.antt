@@ -4,16 +4,20 @@ use mathlib.Core.List.{List}
 use Prim.Native.Nat.{ℕ, _≤_}
 use lib.IntN.{ℤ, pos, negℤ, _+ℤ_, +ℤ-assoc, +ℤ-idr, +ℤ-invr}
 use lib.ListN.{length}
+use Rattle.ints.specs.Range.{InRange}
 use Rattle.ints.specs.Sum.{sumTo}
 use Rattle.ints.specs.Table.{_at_}
+use Rattle.ints.proofs.Ranges.{tab-range}
+use Rattle.ints.proofs.Sizes.{w-add, w-sub}
 use Rattle.ints.proofs.Sums.{sumTo-ext, sumTo-plus, sumTo-neg}
 use Rattle.ints.proofs.Tables.{length-tab, getD-tab}
 use Rattle.split.specs.Fair.{Fair}
 use Rattle.split.specs.Split.{parts}
 use Rattle.split.proofs.Demand3.{fair}
 use Rattle.split.proofs.Laws.{length-parts}
-use Rattle.credits.specs.Paid.{rounded, summed, surplusOf, paidRefusal, netAt, netted}
-use Rattle.credits.proofs.Paid.{length-rounded, split-accepts}
+use Rattle.credits.specs.Facts.{mostCents, mostNet}
+use Rattle.credits.specs.Paid.{summed, paidRefusal, netAt, netted}
+use Rattle.credits.proofs.Paid.{split-accepts}
 
 module _ (surplus : ℤ) (shares : List ℤ) (some : 1 ≤ length shares) (few : length shares ≤ 64) (accepts : paidRefusal surplus shares ≡ 0) where
   -- demand 3 of the credits: document 01's trap "Rounding each credit alone, or giving the odd cents to the last party"
@@ -23,11 +27,7 @@ module _ (surplus : ℤ) (shares : List ℤ) (some : 1 ≤ length shares) (few :
   pub credits-sum : summed (parts surplus shares) ≡ surplus
   credits-sum = ap (sumTo (λ p. parts surplus shares at p)) (length-parts surplus shares) ∙ fair-credits .adds-up
 
--- "Then loss charges and credits total the same cents."
-pub same-cents : (lost shares : List ℤ) → 1 ≤ length shares → length shares ≤ 64 → paidRefusal (surplusOf lost) shares ≡ 0 → summed (rounded lost) ≡ summed (parts (surplusOf lost) shares)
-same-cents lost shares some few accepts = sym (credits-sum (surplusOf lost) shares some few accepts)
-
--- where they do, the nets total the congestion charges
+-- where loss charges and credits total the same cents, the nets total the congestion charges
 pub nets-sum : (congestion loss credit : List ℤ) → length loss ≡ length congestion → length credit ≡ length congestion → summed loss ≡ summed credit → summed (netted congestion loss credit) ≡ summed congestion
 unfolding netted
 nets-sum congestion loss credit l k same =
@@ -44,11 +44,7 @@ nets-sum congestion loss credit l k same =
     cancelled : (x y : ℤ) → (x +ℤ y) +ℤ negℤ y ≡ x
     cancelled x y = +ℤ-assoc x y (negℤ y) ∙ ap (λ (z : ℤ). x +ℤ z) (+ℤ-invr y) ∙ +ℤ-idr x
 
--- so they do where the surplus is accepted, each list with a number for each participant
-pub paid-nets-sum : (charged lost shares : List ℤ) → 1 ≤ length shares → length shares ≤ 64 → length charged ≡ length shares → length lost ≡ length shares → paidRefusal (surplusOf lost) shares ≡ 0
-    → summed (netted (rounded charged) (rounded lost) (parts (surplusOf lost) shares)) ≡ summed (rounded charged)
-paid-nets-sum charged lost shares some few c l accepts =
-    nets-sum (rounded charged) (rounded lost) (parts (surplusOf lost) shares)
-    (length-rounded lost ∙ l ∙ sym c ∙ sym (length-rounded charged))
-    (length-parts (surplusOf lost) shares ∙ sym c ∙ sym (length-rounded charged))
-    (same-cents lost shares some few accepts)
+-- a net is two charges less a credit
+pub nets-within : (congestion loss credit : List ℤ) → InRange congestion mostCents → InRange loss mostCents → InRange credit mostCents → InRange (netted congestion loss credit) mostNet
+unfolding netted
+nets-within congestion loss credit c l k = tab-range (netAt congestion loss credit) (length congestion) mostNet (λ p _. w-sub (w-add (c .each p) (l .each p)) (k .each p))

@@ -1,11 +1,16 @@
--- The contract of `pay` allows one answer and one content of each of the six lists that are lent to be written: two that it allows at the same arguments are equal. Assumes nothing.
+-- Each public contract allows one result, and of `pay` one content of each of the six lists that are lent to be written: two that it allows at the same arguments are equal. Assumes nothing.
+-- `F.Post` is the `ensures` of F, over lifetimes, arguments, result and what the lent lists hold at exit.
 use mathlib.Core.Path.{_≡_, subst}
 use Prim.Native.Nat.{ℕ}
+use lib.IntN.{ℤ}
 use contract.Lifetimes.{Lfts}
 use Rattle.ints.proofs.Unique.{unique}
 use Rattle.credits.proofs.pay.Reads as pay
+use Rattle.credits.proofs.sum.Reads as sum
 
--- `pay.Post` is the contract's `ensures`, over lifetimes, arguments, answer and what the lent lists hold at exit
+pub sum-unique : (κs : Lfts 1) (a : _) (r s : ℤ) (e f : _) → sum.Post κs a r e → sum.Post κs a s f → r ≡ s
+sum-unique κs a r s e f p q = unique p q
+
 pub pay-unique : (κs : Lfts 7) (a : _) (r s : ℕ) (e f : _) → pay.Post κs a r e → pay.Post κs a s f
     → (r ≡ s)
     × (e .0 .now ≡ f .0 .now)

@@ -4,8 +4,6 @@ use mathlib.Core.List.{List}
 use Prim.Native.Nat.{ℕ, _≤_}
 use lib.IntN.{ℤ}
 use lib.ListN.{length}
-use Rattle.ints.specs.Number.{Within}
-use Rattle.ints.specs.Table.{_at_}
 
 -- the lists of an hour: each has a number for each of the 1 to 64 participants
 pub record Lists (participants : ℕ) (charged lost congestion loss credit net : List ℤ) : Type 0 where
@@ -18,10 +16,10 @@ pub record Lists (participants : ℕ) (charged lost congestion loss credit net :
   pub credit-each : length credit ≡ participants
   pub net-each : length net ≡ participants
 
--- the most cents that twelfths of 64 bits are rounded to; 64 times as many fit 64 bits too
+-- the most cents that twelfths of 64 bits are rounded to
 abbrev pub mostCents : ℕ
 mostCents = 76861433640456
 
--- a list of such cents
-pub record InCents (list : List ℤ) : Type 0 where
-  pub each : (p : ℕ) → Within (list at p) mostCents
+-- the most of a net, two charges less a credit: 64 of them fit 64 bits too
+abbrev pub mostNet : ℕ
+mostNet = 230584300921368

@@ -4,9 +4,10 @@ ghost use Prim.Native.Nat.{_≤_};
 ghost use lib.ListN.{length};
 ghost use lib.IntN.{_+ℤ_, _-ℤ_};
 ghost use Rattle.ints.specs.Number.{Within};
+ghost use Rattle.ints.specs.Range.{InRange};
 ghost use Rattle.ints.specs.Refusal.{lent};
 ghost use Rattle.split.specs.Split.{parts};
-ghost use Rattle.credits.specs.Facts.{Lists, mostCents, InCents};
+ghost use Rattle.credits.specs.Facts.{Lists, mostCents, mostNet};
 ghost use Rattle.credits.specs.Paid.{rounded, summed, surplusOf, paidRefusal, netted};
 use units::Cents;
 use units::Twelfths;
@@ -14,7 +15,7 @@ use units::Twelfths;
 // Every number of a list rounded, from twelfths to cents.
 fn round(list: &mut [i64])
     ensures { λ _. ⌜ now (list .exit) ≡ rounded (now (list .entry)) ⌝ }
-    ensures { λ _. ⌜ InCents (now (list .exit)) ⌝ }
+    ensures { λ _. ⌜ InRange (now (list .exit)) mostCents ⌝ }
 {
     let mut i: usize = 0;
     while i < list.len() {
@@ -25,8 +26,8 @@ fn round(list: &mut [i64])
 }
 
 // The sum of a list of cents.
-fn sum(list: &[i64]) -> i64
-    requires { ⌜ InCents (now list) × (length (now list) ≤ 64) ⌝ }
+pub fn sum(list: &[i64]) -> i64
+    requires { ⌜ InRange (now list) mostNet × (length (now list) ≤ 64) ⌝ }
     ensures { λ r. ⌜ r ≡ summed (now (list .entry)) ⌝ }
 {
     let mut total: i64 = 0;
@@ -56,7 +57,7 @@ fn write_out(
     net: &mut [i64],
 )
     requires { ⌜ Lists (length (now charged)) (now charged) (now lost) (now congestion) (now loss) (now credit) (now net) ⌝ }
-    requires { ⌜ InCents (now charged) × InCents (now lost) × InCents (now credit) ⌝ }
+    requires { ⌜ InRange (now charged) mostCents × InRange (now lost) mostCents × InRange (now credit) mostCents ⌝ }
     ensures { λ _. ⌜ now (congestion .exit) ≡ now (charged .entry) ⌝ }
     ensures { λ _. ⌜ now (loss .exit) ≡ now (lost .entry) ⌝ }
     ensures { λ _. ⌜ now (net .exit) ≡ netted (now (charged .entry)) (now (lost .entry)) (now (credit .entry)) ⌝ }

@@ -10,7 +10,8 @@ use Rattle.ints.specs.Range.{InRange}
 use Rattle.ints.specs.Sum.{sumTo}
 use Rattle.ints.specs.Table.{_at_, tab}
 use Rattle.ints.proofs.Adding.{owed-within}
-use Rattle.ints.proofs.Sizes.{w-add, w-up}
+use Rattle.ints.proofs.Ranges.{tab-range}
+use Rattle.ints.proofs.Sizes.{w-add, w-fits, w-up}
 use Rattle.ints.proofs.Sums.{sumTo-ext}
 use Rattle.ints.proofs.Tables.{length-tab, getD-tab}
 use Rattle.ints.proofs.Turns.{then-none}
@@ -27,8 +28,10 @@ use Rattle.exercise.proofs.Whole.{small, whole}
 use Rattle.tariff.specs.Parts.{aheadWeight, ownRows, ownTransactions}
 use Rattle.tariff.specs.Tariff.{Prices, priceList, charge}
 use Rattle.tariff.proofs.Own.{own-only}
+use Rattle.credits.specs.Facts.{mostCents, mostNet}
 use Rattle.credits.specs.Paid.{summed, paidRefusal}
-use Rattle.credits.proofs.Theorems.{fair-credits, credits-sum, nets-sum}
+use Rattle.credits.proofs.Paid.{cents-most, split-accepts, credits-cents}
+use Rattle.credits.proofs.Theorems.{fair-credits, credits-sum, nets-sum, nets-within}
 use Rattle.hour.specs.Charges.{participants, congestionPrices, lossPrices, congestionTotal, lossTotal, congestionOf, lossOf, surplus, shareOf, shares, congestionCharges, lossCharges, credits, nets}
 use Rattle.hour.specs.Given.{Tables, partIn, pathPartIn, bothRefusal, sharesMost, hourMost}
 use Rattle.hour.specs.Order.{outputs, hourRefusal, wholeRefusal}
@@ -161,3 +164,21 @@ module _ (file : List ℕ) (congestion loss credit net : ℕ) (accepts : hourRef
       w-up (owed-within (λ r. r .participant) shareKw 20000000 (λ r t. share-range r (t .kw)) (rows file)
       (rows-passed h (rowPart file) (transactionPart file) both) p)
       (omega (arith, length-tab (rowAt (rowPart file)) (h .rows), w .rows))
+
+  -- in cents: no charge or credit is above 76,861,433,640,456 in size, and no net above 230,584,300,921,368
+  pub congestion-cents : InRange (congestionCharges file) mostCents
+  unfolding congestionCharges
+  congestion-cents = tab-range (congestionOf file) count mostCents (λ p _. record { within = cents-most (congestionTotal file p) (w-fits (congestion-within p) tt) })
+
+  pub loss-cents : InRange (lossCharges file) mostCents
+  unfolding lossCharges
+  loss-cents = tab-range (lossOf file) count mostCents (λ p _. record { within = cents-most (lossTotal file p) (w-fits (loss-within p) tt) })
+
+  pub credit-cents : InRange (credits file) mostCents
+  unfolding credits
+  credit-cents = credits-cents (surplus file) (shares file) (length (shares file)) (split-accepts (surplus file) (shares file) (length (shares file)) some few refl (passes .2))
+
+  pub net-cents : InRange (nets file) mostNet
+  net-cents =
+      subst (λ (l : List ℤ). InRange l mostNet) (the-nets file)
+      (nets-within (congestionCharges file) (lossCharges file) (credits file) congestion-cents loss-cents credit-cents)

@@ -10,11 +10,13 @@ use mir.Syntax.{w64}
 use mir.Val.{toZ, ofZ}
 use mir.Facts.{toZ-ofZ}
 use borrow.Author.Needs.{needs, sfits-of}
+use Rattle.ints.specs.Range.{InRange}
 use Rattle.ints.specs.Refusal.{lent}
+use Rattle.ints.proofs.Ranges.{range-up}
 use Rattle.ints.proofs.Refusals.{lent-result, kept}
 use Rattle.split.specs.Split.{parts, refusal}
 use Rattle.split.proofs.Laws.{length-parts}
-use Rattle.credits.specs.Facts.{InCents}
+use Rattle.credits.specs.Facts.{mostCents}
 use Rattle.credits.specs.Paid.{rounded, summed, surplusOf, paidRefusal, netted}
 use Rattle.credits.proofs.Paid.{length-rounded, ten-for-two, same-number, credits-cents}
 use Rattle.credits.proofs.pay.Statement.{statement}
@@ -54,10 +56,10 @@ module _ (c : tie.After-split) where
   lost-is : lost ≡ rounded (s .args .lost .now)
   lost-is = c .before .before .before .before .before .round2 .ensures .0
 
-  charged-cents : InCents charged
+  charged-cents : InRange charged mostCents
   charged-cents = c .before .before .before .before .before .before .before .before .round .ensures .1
 
-  lost-cents : InCents lost
+  lost-cents : InRange lost mostCents
   lost-cents = c .before .before .before .before .before .round2 .ensures .1
 
   charged-each : length charged ≡ length shares
@@ -89,8 +91,8 @@ module _ (c : tie.After-split) where
     credit-each : length credit ≡ length shares
     credit-each = ap length made ∙ length-parts surplus shares
 
-    credit-cents : InCents credit
-    credit-cents = subst InCents (sym made) (credits-cents surplus shares (length (s .args .credit .now)) (sym answer-is ∙ none))
+    credit-cents : InRange credit mostCents
+    credit-cents = subst (λ (l : List ℤ). InRange l mostCents) (sym made) (credits-cents surplus shares (length (s .args .credit .now)) (sym answer-is ∙ none))
 
     nets-are : netted charged lost credit ≡ nets
     nets-are = ap₂ (λ (l k : List ℤ). netted charged l k) lost-is made ∙ ap (λ (c : List ℤ). netted c (rounded (s .args .lost .now)) credits) charged-is
@@ -102,7 +104,7 @@ round-requires-2 : tie.Need-round-requires-2
 round-requires-2 c κs = search needs
 
 sum-requires : tie.Need-sum-requires
-sum-requires c κs = search needs
+sum-requires c κs = (range-up (c .before .before .round2 .ensures .1) (omega arith), search needs)
 
 split-requires : tie.Need-split-requires
 split-requires c κs = search needs

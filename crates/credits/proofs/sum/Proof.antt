@@ -13,7 +13,7 @@ use Rattle.ints.specs.Sum.{sumTo}
 use Rattle.ints.specs.Table.{_at_}
 use Rattle.ints.proofs.Sizes.{w-fits′, w-read}
 use Rattle.ints.proofs.Sums.{sumTo-zero, sumTo-next, sumTo-abs}
-use Rattle.credits.specs.Facts.{mostCents}
+use Rattle.credits.specs.Facts.{mostNet}
 use Rattle.credits.proofs.sum.Statement.{statement}
 use Rattle.credits.proofs.sum.Tie as tie
 
@@ -37,7 +37,7 @@ module _ (c : tie.After-total Inv-loop μ-loop) where
   more : SFits w64 (toZ w64 (l .loop .total) +ℤ toZ w64 (ofZ w64 (list at l .loop .i)))
   more =
       subst (SFits w64) (sym next)
-      (w-fits′ {k = (l .loop .i + 1) * mostCents} (record { within = sumTo-abs (λ k. list at k) mostCents (l .loop .i + 1) (λ k _. l .before .pre .0 .each k .within) }) (omega (arith, l .before .pre .1)))
+      (w-fits′ {k = (l .loop .i + 1) * mostNet} (record { within = sumTo-abs (λ k. list at k) mostNet (l .loop .i + 1) (λ k _. l .before .pre .0 .each k .within) }) (omega (arith, l .before .pre .1)))
 
 loop-holds : tie.Need-loop-holds Inv-loop μ-loop
 loop-holds c = (search needs, sym (sumTo-zero (λ k. c .args .list .now at k)))
