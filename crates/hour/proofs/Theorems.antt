@@ -86,18 +86,23 @@ module _ (file : List ℕ) (congestion loss credit net : ℕ) (accepts : hourRef
   unfolding credits
   fair = fair-credits (surplus file) (shares file) some few (passes .2)
 
-  -- the totals of the four lists
-  credits-length : length (credits file) ≡ count
-  credits-length = fair .one-each ∙ shares-length
-
-  losses-length : length (lossCharges file) ≡ count
-  unfolding lossCharges
-  losses-length = length-tab (lossOf file) count
-
-  congestions-length : length (congestionCharges file) ≡ count
+  -- each of the four lists has a number for each participant
+  pub congestions-length : length (congestionCharges file) ≡ count
   unfolding congestionCharges
   congestions-length = length-tab (congestionOf file) count
 
+  pub losses-length : length (lossCharges file) ≡ count
+  unfolding lossCharges
+  losses-length = length-tab (lossOf file) count
+
+  pub credits-length : length (credits file) ≡ count
+  credits-length = fair .one-each ∙ shares-length
+
+  pub nets-length : length (nets file) ≡ count
+  unfolding nets
+  nets-length = length-tab _ count
+
+  -- their totals
   credits-total : summed (credits file) ≡ surplus file
   unfolding credits
   credits-total = credits-sum (surplus file) (shares file) some few (passes .2)

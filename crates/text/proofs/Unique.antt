@@ -20,4 +20,4 @@ pub put-all-unique : (κs : Lfts 2) (a : _) (r s : ℕ) (e f : _) → put-all.Po
 put-all-unique κs a r s e f p q = written-unique p q
 
 pub put-number-unique : (κs : Lfts 1) (a : _) (r s : ℕ) (e f : _) → put-number.Post κs a r e → put-number.Post κs a s f → (r ≡ s) × (e .0 .now ≡ f .0 .now)
-put-number-unique κs a r s e f p q = written-unique p q
+put-number-unique κs a r s e f p q = written-unique (p .0) (q .0)

@@ -6,6 +6,7 @@ use lib.Dec.{ltb}
 use lib.IntN.{ℤ, natAbs}
 use Rattle.ints.specs.Number.{below0}
 use Rattle.ints.specs.Refusal.{pick}
+use Rattle.text.specs.Ascii.{ascii}
 
 -- the code of a digit: 48 is '0'
 abbrev pub digit : ℕ → ℕ
@@ -20,9 +21,8 @@ digitsIn (suc most) n = pick (ltb n 10) (digit n ∷ []) (digitsIn most (n / 10)
 abbrev pub digits : ℕ → List ℕ
 digits n = digitsIn 20 n
 
--- 45 is '-'
 abbrev pub sign : Bool → List ℕ
-sign true = 45 ∷ []
+sign true = ascii "-"
 sign false = []
 
 abbrev pub decimal : ℤ → List ℕ

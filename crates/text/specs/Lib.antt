@@ -1,3 +1,4 @@
+pub mod Ascii
 pub mod Decimal
 pub mod Written
 pub mod Cases

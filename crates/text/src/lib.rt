@@ -59,10 +59,11 @@ fn put_sign(text: &mut [u8], at: usize, below: bool) -> usize
     at
 }
 
-// A number, with its sign where it is below 0.
+// A number, with its sign where it is below 0. It takes 20 bytes at most.
 pub fn put_number(text: &mut [u8], at: usize, z: i64) -> usize
-    requires { ⌜ at + length (decimal z) ≤ length (now text) ⌝ }
+    requires { ⌜ at + 20 ≤ length (now text) ⌝ }
     ensures { λ r. ⌜ Written (now (text .entry)) at (decimal z) (now (text .exit)) r ⌝ }
+    ensures { λ r. ⌜ r ≤ at + 20 ⌝ }
 {
     let start = put_sign(text, at, ints::negative(z));
     put_digits(text, start, ints::size(z))

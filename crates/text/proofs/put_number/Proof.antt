@@ -2,7 +2,7 @@
 use mathlib.Core.Path.{_≡_, sym, ap, ap₂, _∙_}
 use mathlib.Core.Bool.{Bool}
 use mathlib.Core.List.{_++_}
-use Prim.Native.Nat.{ℕ, _+_}
+use Prim.Native.Nat.{ℕ, _+_, _≤_}
 use native.Mathlib.Omega.{arith}
 use lib.IntN.{natAbs}
 use lib.ListN.{length, length-append}
@@ -25,11 +25,14 @@ module _ (c : tie.After-negative) where
   room : length (decimal (s .args .z)) ≡ length (sign (c .negative .result)) + length (digits (natAbs (s .args .z)))
   room = length-append (sign (below0 (s .args .z))) (digits (natAbs (s .args .z))) ∙ ap (λ (b : Bool). length (sign b) + length (digits (natAbs (s .args .z)))) (sym sign-is)
 
+  short : length (decimal (s .args .z)) ≤ 20
+  short = laws.length-decimal (s .args .z) (s .fits .z)
+
 negative-requires : tie.Need-negative-requires
 negative-requires c κs = search needs
 
 put-sign-requires : tie.Need-put-sign-requires
-put-sign-requires c κs = omega (arith, room c, c .before .before .before .pre)
+put-sign-requires c κs = omega (arith, room c, short c, s c .pre)
 
 size-requires : tie.Need-size-requires
 size-requires c κs = search needs
@@ -40,14 +43,15 @@ size-is c = c .size .ensures ∙ ap natAbs (toZ-ofZ (s (c .before .before .befor
 put-digits-requires : tie.Need-put-digits-requires
 put-digits-requires c κs = let b = c .before .before .before .before in
     let w = b .put-sign .ensures in
-    omega (arith, w .ends, laws.same-length w, ap (λ (n : ℕ). length (digits n)) (size-is c), room (b .before), s (b .before) .pre)
+    omega (arith, w .ends, laws.same-length w, ap (λ (n : ℕ). length (digits n)) (size-is c), room (b .before), short (b .before), s (b .before) .pre)
 
 same-length : tie.Need-same-length
 same-length c = search needs
 
 returns : tie.Need-returns
 returns c = let b = c .before .before .before .before .before .before .before in
-    laws.told (laws.more (b .put-sign .ensures) (c .before .before .put-digits .ensures)) (ap₂ (λ (b : Bool) (n : ℕ). sign b ++ digits n) (sign-is (b .before)) (size-is (c .before .before .before)))
+    let w = laws.told (laws.more (b .put-sign .ensures) (c .before .before .put-digits .ensures)) (ap₂ (λ (b : Bool) (n : ℕ). sign b ++ digits n) (sign-is (b .before)) (size-is (c .before .before .before))) in
+    (w, omega (arith, w .ends, short (b .before)))
 
 pub put-number-spec : {M : Type 1} → statement M
 put-number-spec =

@@ -1,0 +1,29 @@
+-- The statement of document 01's file, and refused files, computed by the definitions. Assumes nothing.
+use mathlib.Core.Path.{_≡_, refl}
+use mathlib.Core.List.{[], _∷_}
+use Rattle.ints.specs.Every.{owed}
+use Rattle.ints.specs.Sum.{Σℤ, sumTo, sumN}
+use Rattle.ints.specs.Table.{tab, all}
+use Rattle.ints.specs.Turn.{inTurn}
+use Rattle.text.specs.Ascii.{ascii}
+use Rattle.text.specs.Decimal.{digitsIn}
+use Rattle.units.specs.Units.{centsOf}
+use Rattle.split.specs.Split.{total, cutDown, remainder, unitsLeft, before, place, part, parts}
+use Rattle.rows.specs.Packed.{bytesAt}
+use Rattle.rows.specs.Row.{rowRefusal}
+use Rattle.rows.specs.Transaction.{transactionRefusal}
+use Rattle.exercise.specs.Cases as exercise
+use Rattle.exercise.specs.File.{header, placesOf, headerRefusal, throughLength, fromPrices}
+use Rattle.exercise.specs.Price.{priceRefusal}
+use Rattle.tariff.specs.Tariff.{aheadAt, realAt, aheadPath, realPath, positions, paths, charge}
+use Rattle.credits.specs.Paid.{paidRefusal}
+use Rattle.hour.specs.Charges.{surplus, shares, congestionCharges, lossCharges, credits, nets}
+use Rattle.printed.specs.Statement.{joined, statement}
+
+document-01 : statement exercise.statement ≡ ascii "0 0 1000 927 73\n1 0 390 463 -73\ntotal 0 1390 1390 0\n"
+unfolding statement joined digitsIn throughLength headerRefusal fromPrices inTurn priceRefusal rowRefusal transactionRefusal paidRefusal all total sumN surplus shares owed tab centsOf charge positions paths aheadAt realAt aheadPath realPath Σℤ sumTo header bytesAt placesOf congestionCharges lossCharges credits nets parts part cutDown remainder unitsLeft before place
+document-01 = refl
+
+empty : statement [] ≡ ascii "refused 9\n"
+unfolding statement digitsIn throughLength
+empty = refl
