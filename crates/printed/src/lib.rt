@@ -140,9 +140,9 @@ fn put_hour(
     ensures { λ r. ⌜ Written (now (page .entry)) 0 (Statement·statement (now (file .entry))) (now (page .exit)) r ⌝ }
     ensures { λ r. ⌜ r ≤ 6825 ⌝ }
 {
-    let refusal = hour::settle(file, congestion, loss, credit, net);
-    if refusal != 0 {
-        return put_refused(page, refusal);
+    let answer = hour::settle(file, congestion, loss, credit, net);
+    if answer != 0 {
+        return put_refused(page, answer);
     }
     let at = put_lines(page, congestion, loss, credit, net);
     put_last(page, at, congestion, loss, credit, net)
