@@ -5,6 +5,7 @@
 
 pub mod examples;
 pub mod exercise;
+pub mod files;
 pub mod hour;
 pub mod load;
 pub mod numbers;
