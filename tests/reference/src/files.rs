@@ -1,12 +1,15 @@
 //! The exercise files that are kept, each beside the statement it comes to.
 
-use crate::examples;
+use crate::{examples, statements};
 
 /// The name of a file and what makes its bytes.
 pub type Made = (&'static str, fn() -> Vec<u8>);
 
 /// The folders that keep files, and what is in each.
-const FOLDERS: [(&str, &[Made]); 1] = [("examples", &examples::ALL)];
+const FOLDERS: [(&str, &[Made]); 2] = [
+    ("examples", &examples::ALL),
+    ("tests/statements", &statements::ALL),
+];
 
 /// The bytes of a file, whichever folder it is in.
 pub fn bytes(name: &str) -> Option<Vec<u8>> {

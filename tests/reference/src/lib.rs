@@ -11,6 +11,7 @@ pub mod load;
 pub mod numbers;
 pub mod random;
 pub mod split;
+pub mod statements;
 
 #[cfg(test)]
 mod vectors;

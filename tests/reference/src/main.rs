@@ -1,6 +1,7 @@
 //! `reference CALL COUNT SEED` prints cases for a call, one a line, with the
 //! answer and the output that document 01 asks for. `reference exercise NAME`
-//! writes the bytes of `NAME.exercise`, a file of `examples/`.
+//! writes the bytes of `NAME.exercise`, a file of `examples/` or
+//! `tests/statements/`.
 
 use reference::cases::{check, hour, load, row, split};
 use reference::files;
