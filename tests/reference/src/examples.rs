@@ -1,29 +1,25 @@
 //! The exercise files of `examples/`, by what is in them.
 
-use crate::cases::file::{document_01, File};
+use crate::cases::file::{document_01, prices, File};
 use crate::exercise::{
-    DAY_AHEAD, DECREMENT, GENERATION, IMPORT, INCREMENT, INTERVALS, LOAD, REAL_TIME,
+    DAY_AHEAD, DECREMENT, EXPORT, GENERATION, IMPORT, INCREMENT, INTERVALS, LOAD, REAL_TIME,
 };
+use crate::files::Made;
 
-/// The name of a file and what makes its bytes.
-type Example = (&'static str, fn() -> Vec<u8>);
-
-pub const ALL: [Example; 5] = [
+pub const ALL: [Made; 8] = [
     ("document-01", document_01),
     ("document-002-day-ahead", day_ahead),
     ("document-002-balancing", balancing),
     ("document-002-hour", hour),
     ("document-002-purchase", purchase),
+    ("never-showed-up", never_showed_up),
+    ("negative-surplus", negative_surplus),
+    ("tie-for-the-last-cent", tie_for_the_last_cent),
 ];
 
-/// The bytes of a file.
-pub fn bytes(name: &str) -> Option<Vec<u8>> {
-    let (_, make) = ALL.iter().find(|(other, _)| *other == name)?;
-    Some(make())
-}
+const MW: i64 = 1_000;
 
 // Document 002 gives MW, and dollars per MWh at the buses A to E.
-const MW: i64 = 1_000;
 const A: usize = 0;
 const C: usize = 2;
 const D: usize = 3;
@@ -128,49 +124,205 @@ fn run(file: &mut File) {
     }
 }
 
+// The teaching hours. Their pages tell what is in them in words.
+
+/// A wind farm and a trader schedule a day ahead and have nothing in real time.
+fn never_showed_up() -> Vec<u8> {
+    const HILL: usize = 0;
+    const VALLEY: usize = 1;
+    const TOWN: usize = 0;
+    const VILLAGE: usize = 1;
+    const WIND_FARM: usize = 2;
+    const TRADER: usize = 3;
+
+    let mut file = File::new(4, 2);
+    file.congestion = prices([1_000, 3_000], |interval| match interval {
+        0..=8 => [1_200, 2_400],
+        _ => [6_000, 9_600],
+    });
+    file.loss = prices([200, 500], |interval| match interval {
+        0..=8 => [240, 600],
+        _ => [480, 840],
+    });
+    file.row(DAY_AHEAD, LOAD, 0, TOWN, VALLEY, 20 * MW);
+    file.row(DAY_AHEAD, GENERATION, 0, WIND_FARM, HILL, 6 * MW);
+    for interval in 0..INTERVALS {
+        file.row(REAL_TIME, LOAD, interval, TOWN, VALLEY, 20 * MW);
+    }
+    for interval in 0..INTERVALS {
+        file.row(REAL_TIME, LOAD, interval, VILLAGE, VALLEY, 5 * MW);
+    }
+    file.transaction(DAY_AHEAD, 0, TRADER, HILL, VALLEY, 10 * MW);
+    file.bytes()
+}
+
+/// Load is paid for being where the loss price is below zero.
+fn negative_surplus() -> Vec<u8> {
+    const COAST: usize = 0;
+    const INLAND: usize = 1;
+    const HARBOUR: usize = 0;
+    const MILL: usize = 1;
+    const EXPORTER: usize = 2;
+    const WIND_FARM: usize = 3;
+
+    let mut file = File::new(4, 2);
+    file.loss = prices([-500, 200], |interval| match interval {
+        4 => [-600, 240],
+        _ => [-360, 120],
+    });
+    file.row(REAL_TIME, LOAD, 4, HARBOUR, COAST, 50 * MW);
+    file.row(REAL_TIME, LOAD, 4, MILL, COAST, 30_100);
+    file.row(REAL_TIME, EXPORT, 4, EXPORTER, INLAND, 19_900);
+    file.row(REAL_TIME, GENERATION, 4, WIND_FARM, COAST, 24 * MW);
+    file.bytes()
+}
+
+/// Three participants have 30 MW each, and the surplus doesn't divide by three.
+fn tie_for_the_last_cent() -> Vec<u8> {
+    const PLANT: usize = 0;
+    const CITY: usize = 1;
+    const GENERATOR: usize = 0;
+    const FIRST: usize = 1;
+    const SECOND: usize = 2;
+    const THIRD: usize = 3;
+
+    let mut file = File::new(4, 2);
+    file.loss = prices([500, 2_000], |interval| match interval {
+        0..=5 => [630, 2_400],
+        _ => [630, 3_000],
+    });
+    file.row(REAL_TIME, GENERATION, 0, GENERATOR, PLANT, 64_400);
+    file.row(REAL_TIME, LOAD, 0, FIRST, CITY, 30 * MW);
+    file.row(REAL_TIME, LOAD, 0, SECOND, CITY, 20 * MW);
+    file.row(REAL_TIME, EXPORT, 0, SECOND, PLANT, 10 * MW);
+    file.row(REAL_TIME, LOAD, 0, THIRD, CITY, 15 * MW);
+    file.row(REAL_TIME, LOAD, 6, THIRD, CITY, 15 * MW);
+    file.bytes()
+}
+
 #[cfg(test)]
 mod tests {
     use super::*;
-    use crate::hour::statement;
-    use std::fs;
+    use crate::exercise::{read_header, read_hour, Hour, Prices, Row, Transaction};
+    use crate::files::tests::text;
 
-    fn stored(name: &str) -> Vec<u8> {
-        let folder = concat!(env!("CARGO_MANIFEST_DIR"), "/../../examples");
-        fs::read(format!("{folder}/{name}")).expect(name)
-    }
-
-    fn text(name: &str) -> String {
-        String::from_utf8(stored(name)).expect(name)
-    }
-
-    #[test]
-    fn files_are_as_made() {
-        for (name, make) in ALL {
-            assert!(stored(&format!("{name}.exercise")) == make(), "{name}");
-        }
-    }
-
-    /// The statements are written by hand, from the bills of the documents.
-    #[test]
-    fn statements_are_as_expected() {
-        for (name, make) in ALL {
-            let expected = text(&format!("{name}.statement"));
-            assert_eq!(statement(&make()), expected, "{name}");
+    /// The page that tells of an example.
+    fn page(name: &str) -> &str {
+        match name.strip_prefix("document-002-") {
+            Some(_) => "document-002",
+            None => name,
         }
     }
 
     #[test]
-    fn readme_shows_every_statement() {
-        let readme = text("README.md");
+    fn pages_show_every_statement() {
+        let index = text("examples/README.md");
         for (name, _) in ALL {
-            let shown = format!("```\n{}```\n", text(&format!("{name}.statement")));
-            assert!(readme.contains(&shown), "{name}");
+            let page = page(name);
+            assert!(index.contains(&format!("[{page}.md]({page}.md)")), "{page}");
+            assert!(index.contains(&format!("`{name}`")), "{name}");
+            let page = text(&format!("examples/{page}.md"));
+            let shown = format!("```\n{}```\n", text(&format!("examples/{name}.statement")));
+            assert!(page.contains(&shown), "{name}");
         }
     }
 
+    /// The tables of a teaching hour's page have all that is in its file and
+    /// nothing else.
     #[test]
-    fn refused_statement() {
-        assert_eq!(statement(&[]), "refused 9\n");
-        assert_eq!(statement(&document_01()[..178]), "refused 9\n");
+    fn pages_show_every_price_and_row() {
+        for (name, make) in ALL.iter().filter(|(name, _)| !name.starts_with("document")) {
+            let file = make();
+            let hour = read_hour(&file, &read_header(&file).unwrap()).unwrap();
+            let page = text(&format!("examples/{name}.md"));
+            for lines in [prices_of(&hour), rows_of(&hour), transactions_of(&hour)] {
+                let table = table(lines);
+                let shown = format!("|---|\n{table}\n");
+                assert!(table.is_empty() || page.contains(&shown), "{name}\n{table}");
+            }
+        }
+    }
+
+    /// A line of a table: what stands before the interval, the interval, and
+    /// what stands after it.
+    type Line = (String, Option<usize>, String);
+
+    const MARKETS: [&str; 2] = ["day-ahead", "real time"];
+    const KINDS: [&str; 4] = ["load", "generation", "export", "import"];
+
+    fn prices_of(hour: &Hour) -> Vec<Line> {
+        let list = |name: &str, prices: &Prices| -> Vec<Line> {
+            let line = |market: usize, interval, prices: &Vec<i64>| {
+                let dollars: Vec<String> = prices.iter().map(|&mills| decimal(mills, 2)).collect();
+                let market = MARKETS[market];
+                (format!("{name} | {market}"), interval, dollars.join(" | "))
+            };
+            let mut lines = vec![line(DAY_AHEAD, None, &prices.day_ahead)];
+            for (interval, prices) in prices.real_time.iter().enumerate() {
+                lines.push(line(REAL_TIME, Some(interval), prices));
+            }
+            lines
+        };
+        [
+            list("congestion", &hour.congestion),
+            list("loss", &hour.loss),
+        ]
+        .concat()
+    }
+
+    fn rows_of(hour: &Hour) -> Vec<Line> {
+        let line = |row: &Row| {
+            let before = format!("{} | {}", MARKETS[row.market], KINDS[row.kind]);
+            let mw = decimal(row.kw, 0);
+            let after = format!("{} | {} | {mw}", row.participant, row.location);
+            (before, Some(row.interval), after)
+        };
+        hour.rows.iter().map(line).collect()
+    }
+
+    fn transactions_of(hour: &Hour) -> Vec<Line> {
+        let line = |t: &Transaction| {
+            let mw = decimal(t.kw, 0);
+            let after = format!("{} | {} | {} | {mw}", t.participant, t.source, t.sink);
+            (MARKETS[t.market].to_string(), Some(t.interval), after)
+        };
+        hour.transactions.iter().map(line).collect()
+    }
+
+    /// Lines in turn that differ by one interval each stand as one.
+    fn table(lines: Vec<Line>) -> String {
+        let mut text = String::new();
+        let mut at = 0;
+        while at < lines.len() {
+            let (before, from, after) = &lines[at];
+            let mut to = *from;
+            at += 1;
+            while at < lines.len()
+                && lines[at] == (before.clone(), to.map(|k| k + 1), after.clone())
+            {
+                to = lines[at].1;
+                at += 1;
+            }
+            let interval = match (from, to) {
+                (Some(from), Some(to)) if *from < to => format!("{from} to {to}"),
+                (Some(from), _) => from.to_string(),
+                (None, _) => "-".to_string(),
+            };
+            text += &format!("| {before} | {interval} | {after} |\n");
+        }
+        text
+    }
+
+    /// Thousandths with at least some places after the point.
+    fn decimal(thousandths: i64, places: usize) -> String {
+        let sign = if thousandths < 0 { "-" } else { "" };
+        let size = thousandths.abs();
+        let mut text = format!("{sign}{}.{:03}", size / 1_000, size % 1_000);
+        for _ in places..3 {
+            if text.ends_with('0') {
+                text.pop();
+            }
+        }
+        text.trim_end_matches('.').to_string()
     }
 }

@@ -5,11 +5,13 @@
 
 pub mod examples;
 pub mod exercise;
+pub mod files;
 pub mod hour;
 pub mod load;
 pub mod numbers;
 pub mod random;
 pub mod split;
+pub mod statements;
 
 #[cfg(test)]
 mod vectors;

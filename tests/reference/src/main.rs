@@ -1,9 +1,10 @@
 //! `reference CALL COUNT SEED` prints cases for a call, one a line, with the
-//! answer and the output that document 01 asks for. `reference example NAME`
-//! writes the bytes of `examples/NAME.exercise`.
+//! answer and the output that document 01 asks for. `reference exercise NAME`
+//! writes the bytes of `NAME.exercise`, a file of `examples/` or
+//! `tests/statements/`.
 
 use reference::cases::{check, hour, load, row, split};
-use reference::examples;
+use reference::files;
 use reference::random::Random;
 use std::io::{self, BufWriter, Write};
 use std::process::ExitCode;
@@ -22,8 +23,8 @@ const CALLS: [(&str, &str, Line); 5] = [
 fn main() -> ExitCode {
     let words: Vec<String> = std::env::args().skip(1).collect();
     let (call, count, seed) = match words.as_slice() {
-        [word, name] if word == "example" => {
-            return match examples::bytes(name) {
+        [word, name] if word == "exercise" => {
+            return match files::bytes(name) {
                 Some(bytes) => status(io::stdout().write_all(&bytes)),
                 None => usage(),
             }
@@ -64,8 +65,7 @@ fn print(header: &str, line: Line, count: usize, seed: u64) -> io::Result<()> {
 
 fn usage() -> ExitCode {
     let names: Vec<&str> = CALLS.iter().map(|(name, ..)| *name).collect();
-    let examples: Vec<&str> = examples::ALL.iter().map(|(name, _)| *name).collect();
     eprintln!("usage: reference {} COUNT SEED", names.join("|"));
-    eprintln!("       reference example {}", examples.join("|"));
+    eprintln!("       reference exercise NAME");
     ExitCode::from(2)
 }

@@ -132,6 +132,15 @@ impl File {
     }
 }
 
+/// A list of prices: day-ahead for each location, then interval by interval.
+pub fn prices<const LOCATIONS: usize>(
+    day_ahead: [i64; LOCATIONS],
+    real_time: impl Fn(usize) -> [i64; LOCATIONS],
+) -> Vec<i64> {
+    let intervals = (0..INTERVALS).flat_map(real_time);
+    day_ahead.into_iter().chain(intervals).collect()
+}
+
 /// The exercise of document 01: two participants, two locations, three rows.
 pub fn document_01() -> Vec<u8> {
     let mut file = unhex("0410030000");
