@@ -104,11 +104,9 @@ static int read_numbers(const struct text *text, char *rest, struct list *number
  * An area has a part for each bus. Laid end to end, areas with parts too few
  * and too many would pass for others.
  */
-static int take_area(struct text *text, const struct list *parts)
+static int take_area(struct assignment *assignment, const struct list *parts)
 {
-    struct assignment *assignment = text->assignment;
-
-    if (!text->seen[LOADS] || parts->len != assignment->loads.len)
+    if (parts->len != assignment->loads.len)
         return 0;
     assignment->areas++;
     add_list(&assignment->area_parts, parts);
@@ -149,7 +147,7 @@ static int take(struct text *text, enum kind kind, const struct list *numbers)
         add_list(&assignment->generation, numbers);
         break;
     case AREA:
-        return take_area(text, numbers);
+        return take_area(assignment, numbers);
     case CONTRACT:
         add_list(&assignment->contracts, numbers);
         break;
