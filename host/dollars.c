@@ -26,12 +26,15 @@ static void cell_of(const struct statement *statement, size_t line, size_t colum
     if (column > 0)
         dollars_of((totals ? statement->total : statement->of[line])[column - 1], text);
     else if (totals)
-        strcpy(text, "Total");
+        snprintf(text, DOLLARS_LEN, "Total");
     else
         snprintf(text, DOLLARS_LEN, "%zu", line);
 }
 
-/* A column is as wide as the widest that stands in it; no heading is wider than an amount can be. */
+/*
+ * A column is as wide as the widest that stands in it, which is less than
+ * DOLLARS_LEN: no heading is wider than an amount can be.
+ */
 static size_t width_of(const struct statement *statement, size_t column)
 {
     char text[DOLLARS_LEN];
