@@ -1,0 +1,29 @@
+/*
+ * Files by their names.
+ */
+#ifndef FILES_H
+#define FILES_H
+
+#include <stddef.h>
+#include <stdint.h>
+#include <stdio.h>
+
+/* What a file is called in messages: "-" is standard input. */
+const char *called(const char *name);
+
+/* Opens a file to be read, NULL where it can't be; it has then said why. */
+FILE *open_file(const char *name);
+
+/*
+ * Closes a file after the last read. Gives 1, or 0 where a read failed; it has
+ * then said why.
+ */
+int close_file(FILE *file, const char *name);
+
+/*
+ * Reads the file's bytes, up to the room that there is for them. Gives 1, or 0
+ * where it can't be read; it has then said why.
+ */
+int read_file(const char *name, uint8_t *bytes, size_t room, size_t *len);
+
+#endif

@@ -1,0 +1,100 @@
+/*
+ * Tests what the host's parts do with numbers that no answer of the engine and
+ * no word brings to them: the least and the largest of 64 bits, and refusals
+ * that don't exist. Prints document 01's table of refusals from the host's
+ * sentences, for comparison, where all else is right.
+ */
+#include "lists.h"
+#include "refusals.h"
+#include "statement.h"
+
+#include <inttypes.h>
+#include <stdio.h>
+#include <string.h>
+
+static int same(const char *what, const char *expected, const char *text)
+{
+    if (strcmp(expected, text) == 0)
+        return 1;
+    printf("%s: '%s', '%s' is expected\n", what, text, expected);
+    return 0;
+}
+
+static int is_dollars(const char *expected, int64_t cents)
+{
+    char text[DOLLARS_LEN];
+
+    dollars_of(cents, text);
+    return same("dollars", expected, text);
+}
+
+static int dollars_are_right(void)
+{
+    return is_dollars("0.00", 0) & is_dollars("0.01", 1) & is_dollars("-0.01", -1) &
+           is_dollars("0.99", 99) & is_dollars("1.00", 100) & is_dollars("-1.00", -100) &
+           is_dollars("-0.73", -73) & is_dollars("92233720368547758.07", INT64_MAX) &
+           is_dollars("-92233720368547758.08", INT64_MIN);
+}
+
+/* A number written to a list is read from it, and has these bytes. */
+static int is_listed(int64_t number, const char *bytes)
+{
+    struct list list = {0};
+
+    add_number(&list, 0);
+    add_number(&list, number);
+    if (count_of(&list) == 2 && number_at(list.bytes, 1) == number &&
+        memcmp(list.bytes + NUMBER, bytes, NUMBER) == 0)
+        return 1;
+    printf("%" PRId64 " isn't listed right\n", number);
+    return 0;
+}
+
+static int lists_are_right(void)
+{
+    return is_listed(0, "\0\0\0\0\0\0\0\0") & is_listed(1, "\1\0\0\0\0\0\0\0") &
+           is_listed(-1, "\377\377\377\377\377\377\377\377") &
+           is_listed(INT64_MAX, "\377\377\377\377\377\377\377\177") &
+           is_listed(INT64_MIN, "\0\0\0\0\0\0\0\200");
+}
+
+/* A list has room for one number more than the longest, and takes any more. */
+static int room_is_right(void)
+{
+    struct list list = {0}, twice = {0};
+    int64_t i;
+
+    for (i = 0; i < 1024; i++)
+        add_number(&list, i);
+    add_list(&twice, &list);
+    add_list(&twice, &list);
+    if (count_of(&list) == 1024 && count_of(&twice) == 1025 && number_at(twice.bytes, 1024) == 0)
+        return 1;
+    printf("a list of %zu, one of %zu\n", count_of(&list), count_of(&twice));
+    return 0;
+}
+
+/* The number is refused with the sentence of no other. */
+static int is_none(uint32_t refusal)
+{
+    return same("refusal", "no refusal of document 01", sentence_of(refusal));
+}
+
+static void print_table(void)
+{
+    uint32_t refusal;
+
+    puts("| No. | Given when |\n|---|---|");
+    for (refusal = 1; refusal <= 10; refusal++)
+        printf("| %" PRIu32 " | %s |\n", refusal, sentence_of(refusal));
+}
+
+int main(void)
+{
+    int right = dollars_are_right() & lists_are_right() & room_is_right() & is_none(0) &
+                is_none(11) & is_none(UINT32_MAX);
+
+    if (right)
+        print_table();
+    return !right;
+}
