@@ -104,6 +104,33 @@ static int guard_holds(const struct list *list, int pass)
     return 1;
 }
 
+static void print_list(const uint8_t *bytes, size_t len, const char *end)
+{
+    size_t i;
+
+    for (i = 0; i < len; i++)
+        printf("%02x", bytes[i]);
+    printf("%s", end);
+}
+
+static void print_case(const struct call *call, uint32_t judged)
+{
+    size_t i;
+
+    for (i = 0; i < call->fields; i++) {
+        const struct field *field = &call->given[i];
+
+        if (field->list)
+            print_list(field->list->before, field->list->len, "\t");
+        else
+            printf("%" PRId64 "\t", *field->number);
+    }
+    printf("%" PRIu32 "\t", judged);
+    for (i = call->lists - call->outputs; i < call->lists; i++)
+        print_list(call->list[i].after, call->list[i].len, i + 1 < call->lists ? "\t" : "\n");
+    fflush(stdout);
+}
+
 static int answers(const struct call *call, uint32_t answer, uint32_t judged)
 {
     if (answer == judged)
@@ -122,6 +149,8 @@ void hold_to_judge(const struct call *call)
         lend_to_judge(&call->list[i]);
     judged = call->judge(call->list);
     count_answer(judged);
+    if (getenv("PRINT_CASE"))
+        print_case(call, judged);
     for (pass = 0; pass < PASSES; pass++) {
         for (i = 0; i < call->lists; i++)
             lend(&call->list[i], pass);
@@ -172,7 +201,7 @@ static int64_t take_bytes(struct source *source, size_t count)
 /* The number that was made so many numbers ago, none counting as 0. */
 static int64_t earlier(const struct source *source, size_t ago)
 {
-    size_t room = sizeof source->made / sizeof *source->made;
+    size_t room = COUNT(source->made);
 
     if (ago >= source->count || ago >= room)
         return 0;
@@ -184,7 +213,7 @@ static int64_t clamp(int64_t number, int64_t low, int64_t high)
     return number < low ? low : number > high ? high : number;
 }
 
-/* What `how` makes of the next bytes; within no limits for the last two of them. */
+/* What `how` makes of the next bytes. */
 static int64_t any_number(struct source *source, uint8_t how, int64_t low, int64_t high)
 {
     int64_t sign = how & 0x80 && low < 0 ? -1 : 1;
@@ -202,7 +231,7 @@ static int64_t any_number(struct source *source, uint8_t how, int64_t low, int64
 
 int64_t take_number(struct source *source, int64_t low, int64_t high)
 {
-    size_t room = sizeof source->made / sizeof *source->made;
+    size_t room = COUNT(source->made);
     uint8_t how = take(source);
     int64_t number;
 
@@ -262,17 +291,27 @@ struct fault take_fault(struct source *source)
     return fault;
 }
 
+/* The length that a list gets in place of its own: one of a few, or a little more or less. */
+static size_t wrong_length(size_t len, size_t kind)
+{
+    static const size_t lens[] = {0, 8, 24, 520};
+    static const int excess[] = {-8, 8, -1, 1, 4, -24, 24, -512, 512};
+
+    kind %= COUNT(lens) + COUNT(excess);
+    if (kind < COUNT(lens))
+        return lens[kind];
+    return (size_t)clamp((int64_t)len + excess[kind - COUNT(lens)], 0, MOST_LIST_BYTES - GUARD);
+}
+
 void spoil_length(struct fault fault, struct list *list, size_t lists)
 {
-    static const int excess[] = {-8, 8, -1, 1, 4, -24, 24, -512, 512, -MOST_LIST_BYTES};
-    size_t kinds = sizeof excess / sizeof *excess, old;
+    size_t old;
 
     if (fault.whether < 0xe0)
         return;
     list += fault.what % lists;
     old = list->len;
-    list->len = (size_t)clamp((int64_t)old + excess[fault.what / lists % kinds], 0,
-                              MOST_LIST_BYTES - GUARD);
+    list->len = wrong_length(old, fault.what / lists);
     if (list->len > old)
         memset(list->before + old, fault.whether, list->len - old);
 }

@@ -23,20 +23,30 @@ struct list {
 /* The two arguments that lend a list. */
 #define LENT(list) (list).lent, (list).len
 
+/* What a call is given: a list, or else a number. */
+struct field {
+    const struct list *list;
+    const int64_t *number;
+};
+
 /* A call and what must answer the same; both lend the lists and do nothing else. */
 struct call {
     const char *name;
     struct list *list;
-    size_t lists;
+    size_t lists, outputs; /* the last of the lists are written */
     uint32_t (*engine)(const struct list *);
     uint32_t (*judge)(const struct list *);
+    const struct field *given; /* in the order of a case of the tests */
+    size_t fields;
 };
+#define COUNT(array) (sizeof(array) / sizeof *(array))
 
 /*
  * Makes the call twice, each list once ending and once beginning where its
  * pages do, and the second time NULL for an empty one. Ends the program where
  * the answer or a byte of any list isn't the judge's. The answers are counted,
- * and the counts printed as the program ends.
+ * and the counts printed as the program ends. Where the environment has
+ * PRINT_CASE the call is printed first, as a line of a case file of the tests.
  */
 void hold_to_judge(const struct call *call);
 

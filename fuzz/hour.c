@@ -10,7 +10,8 @@
 enum { FILE_BYTES, CONGESTION, LOSS, CREDIT, NET, LISTS };
 
 static struct list list[LISTS] = {
-    {.name = "file"}, {.name = "congestion"}, {.name = "loss"}, {.name = "credit"}, {.name = "net"},
+    {.name = "file"},   {.name = "congestion"}, {.name = "loss"},
+    {.name = "credit"}, {.name = "net"},
 };
 
 static uint32_t engine(const struct list *lent)
@@ -41,10 +42,23 @@ static void take_lists(uint8_t about, size_t participants)
 
 int LLVMFuzzerTestOneInput(const uint8_t *bytes, size_t len)
 {
-    static const struct call hour = {"wz_settle_hour", list, LISTS, engine, judge};
+    static const struct field given[] = {
+        {.list = &list[FILE_BYTES]}, {.list = &list[CONGESTION]}, {.list = &list[LOSS]},
+        {.list = &list[CREDIT]},     {.list = &list[NET]},
+    };
+    static const struct call hour = {
+        .name = "wz_settle_hour",
+        .list = list,
+        .lists = LISTS,
+        .outputs = 4,
+        .engine = engine,
+        .judge = judge,
+        .given = given,
+        .fields = COUNT(given),
+    };
 
     if (len < 1 || len > MOST_LIST_BYTES / 2)
-        return -1;
+        return 0;
     list[FILE_BYTES].len = len - 1;
     memcpy(list[FILE_BYTES].before, bytes + 1, len - 1);
     take_lists(bytes[0], len > 1 ? (bytes[1] >> 2) + 1u : 1);

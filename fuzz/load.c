@@ -33,12 +33,12 @@ static uint32_t judge(const struct list *lent)
                              LENT(lent[CONTRACTS]), LENT(lent[TRANCHES]), LENT(lent[OUT]));
 }
 
-/* A count, seldom one more than there may be. */
+/* A count, seldom the most or one more than that. */
 static size_t take_count(struct source *source, size_t most)
 {
     uint8_t byte = take(source);
 
-    return byte == 0xff ? most + 1 : byte % (most + 1);
+    return byte < 0xfe ? byte % (most + 1) : most + (byte == 0xff);
 }
 
 /* An area's parts from the number `at` on: all at one bus, or each of what is left. */
@@ -88,7 +88,22 @@ static void take_contracts(struct source *source, size_t count)
 
 int LLVMFuzzerTestOneInput(const uint8_t *bytes, size_t len)
 {
-    static const struct call load = {"wz_assign_load", list, LISTS, engine, judge};
+    static const struct field given[] = {
+        {.number = &metered},        {.number = &distributor},    {.list = &list[LOADS]},
+        {.list = &list[IMPORTS]},    {.list = &list[GENERATION]}, {.number = &areas},
+        {.list = &list[AREA_PARTS]}, {.list = &list[CONTRACTS]},  {.list = &list[TRANCHES]},
+        {.list = &list[OUT]},
+    };
+    static const struct call load = {
+        .name = "wz_assign_load",
+        .list = list,
+        .lists = LISTS,
+        .outputs = 1,
+        .engine = engine,
+        .judge = judge,
+        .given = given,
+        .fields = COUNT(given),
+    };
     struct source source = {.bytes = bytes, .left = len};
     struct fault fault = take_fault(&source);
     size_t buses = take_count(&source, MOST_BUSES);

@@ -63,6 +63,7 @@ static int once_in(size_t count)
 static int64_t draw_size(int64_t most)
 {
     static const int64_t round[] = {1, 12, 60, 100, 600, 1000, 60000, 120000, 4000000};
+    static const size_t rounds = sizeof round / sizeof *round;
 
     switch (below(8)) {
     case 0: return 0;
@@ -71,7 +72,7 @@ static int64_t draw_size(int64_t most)
     case 3: return (int64_t)below(1000);
     case 4: return most - (int64_t)below(3);
     case 5: return (int64_t)below((size_t)most + 1);
-    default: return round[below(sizeof round / sizeof *round)];
+    default: return round[below(rounds)];
     }
 }
 
@@ -183,8 +184,7 @@ static void mend_entry(const struct draft *draft, int kind, uint8_t *entry)
     for (field = 0; field < FIELDS; field++) {
         struct field place = fields[kind][field];
 
-        put_field(entry, place,
-                  field_of(entry, place) % values_of(draft, kind, entry, field));
+        put_field(entry, place, field_of(entry, place) % values_of(draft, kind, entry, field));
     }
     if (kind == ROWS)
         entry[ENTRY_BYTES - 1] &= 0xf8;
@@ -247,8 +247,7 @@ static void change_entry(struct draft *draft)
     int kind = some_kind();
 
     if (draft->entries[kind] > 0)
-        redraw(draft, kind, entry_of(draft, kind, below(draft->entries[kind])),
-               (int)below(FIELDS));
+        redraw(draft, kind, entry_of(draft, kind, below(draft->entries[kind])), (int)below(FIELDS));
 }
 
 /* Makes room for entries at a place, and gives the first of them. */
@@ -293,18 +292,18 @@ static void mirror_row(struct draft *draft)
     redraw(draft, ROWS, entry, PARTICIPANT);
 }
 
-/* All entries once more, as often as they fit into a number drawn. */
+/* The entries again and again, up to the most that there may be or to fewer. */
 static void repeat_entries(struct draft *draft)
 {
     int kind = some_kind();
-    size_t count = draft->entries[kind], most = most_entries[kind], i;
+    size_t count = draft->entries[kind], more = most_entries[kind] - count, i;
     uint8_t *entry;
 
-    if (count == 0 || count == most)
+    if (count == 0 || more == 0)
         return;
-    most = once_in(2) ? most - count : 1 + below(most - count);
-    entry = open_gap(draft, kind, count, most);
-    for (i = 0; i < most; i++, entry += ENTRY_BYTES)
+    more = once_in(2) ? more : 1 + below(more);
+    entry = open_gap(draft, kind, count, more);
+    for (i = 0; i < more; i++, entry += ENTRY_BYTES)
         memcpy(entry, entry_of(draft, kind, i % count), ENTRY_BYTES);
 }
 

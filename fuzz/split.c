@@ -23,7 +23,21 @@ static uint32_t judge(const struct list *lent)
 
 int LLVMFuzzerTestOneInput(const uint8_t *bytes, size_t len)
 {
-    static const struct call split = {"wz_split", list, LISTS, engine, judge};
+    static const struct field given[] = {
+        {.number = &amount},
+        {.list = &list[SHARES]},
+        {.list = &list[PARTS]},
+    };
+    static const struct call split = {
+        .name = "wz_split",
+        .list = list,
+        .lists = LISTS,
+        .outputs = 1,
+        .engine = engine,
+        .judge = judge,
+        .given = given,
+        .fields = COUNT(given),
+    };
     struct source source = {.bytes = bytes, .left = len};
     struct fault fault = take_fault(&source);
     size_t parties = take(&source) % (MOST_PARTIES + 2);
