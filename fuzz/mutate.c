@@ -31,11 +31,11 @@ struct draft {
 enum { ROWS, TRANSACTIONS };
 
 /* The fields of a row and of a transaction, by the place of their lowest bit. */
-struct field {
-    unsigned shift, bits;
+struct bits {
+    unsigned shift, count;
 };
 enum { MARKET, INTERVAL, PARTICIPANT, LOCATION, KW, KIND, SINK, FIELDS };
-static const struct field fields[2][FIELDS] = {
+static const struct bits fields[2][FIELDS] = {
     {{47, 1}, {40, 4}, {34, 6}, {28, 6}, {3, 25}, {44, 3}, {0, 0}},
     {{47, 1}, {43, 4}, {37, 6}, {31, 6}, {0, 25}, {0, 0}, {25, 6}},
 };
@@ -117,14 +117,14 @@ static size_t length_of(const struct draft *draft)
     return (size_t)(entry_of(draft, TRANSACTIONS, draft->entries[TRANSACTIONS]) - draft->file);
 }
 
-static uint64_t field_of(const uint8_t *entry, struct field field)
+static uint64_t field_of(const uint8_t *entry, struct bits field)
 {
-    return get(entry, ENTRY_BYTES) >> field.shift & ((UINT64_C(1) << field.bits) - 1);
+    return get(entry, ENTRY_BYTES) >> field.shift & ((UINT64_C(1) << field.count) - 1);
 }
 
-static void put_field(uint8_t *entry, struct field field, uint64_t number)
+static void put_field(uint8_t *entry, struct bits field, uint64_t number)
 {
-    uint64_t mask = ((UINT64_C(1) << field.bits) - 1) << field.shift;
+    uint64_t mask = ((UINT64_C(1) << field.count) - 1) << field.shift;
 
     put(entry, ENTRY_BYTES, (get(entry, ENTRY_BYTES) & ~mask) | (number << field.shift & mask));
 }
@@ -182,7 +182,7 @@ static void mend_entry(const struct draft *draft, int kind, uint8_t *entry)
     int field;
 
     for (field = 0; field < FIELDS; field++) {
-        struct field place = fields[kind][field];
+        struct bits place = fields[kind][field];
 
         put_field(entry, place, field_of(entry, place) % values_of(draft, kind, entry, field));
     }
