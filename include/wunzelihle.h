@@ -24,16 +24,18 @@
  * lengths and any bytes, and ends. Where there are several reasons to refuse,
  * the answer is the first in the order that stands with the call.
  *
- * STATE AND THREADS
+ * OWNERSHIP, STATE AND THREADS
  *
- * Calls keep no state. They may run on any thread, and at the same time on
- * several, as long as no list written to by one is in use by another.
+ * All lists are the caller's, before a call and after it: a call keeps no
+ * pointer and no state, and allocates nothing. Calls may run on any thread, and
+ * at the same time on several, as long as no list written to by one is in use
+ * by another.
  *
  * STACK
  *
- * Nothing is allocated. A call takes at most the stack that stands with it, in
- * KB of 1,024 bytes, its arguments and the C library's memset and memcpy
- * included; this is measured on the archive for x86-64.
+ * A call takes at most the stack that stands with it, in KB of 1,024 bytes, its
+ * arguments and the C library's memset and memcpy included; this is measured on
+ * the archive for x86-64.
  */
 #ifndef WUNZELIHLE_H
 #define WUNZELIHLE_H
@@ -256,7 +258,7 @@ uint32_t wz_assign_load(int64_t metered, int64_t distributor,
  *   WZ_NO_SHARES  the surplus isn't 0, and everybody's real-time load and
  *                 exports add up to 0
  *
- * Stack: at most 19 KB.
+ * Stack: at most 20 KB.
  */
 uint32_t wz_settle_hour(const uint8_t *file, size_t file_len,
                         uint8_t *congestion, size_t congestion_len,

@@ -54,7 +54,7 @@ pub mod tests {
         }
     }
 
-    /// No file is left over, and no two have the same name.
+    /// No exercise or statement is left over, and no two have the same name.
     #[test]
     fn folders_have_no_other_files() {
         let mut names = BTreeSet::new();
@@ -66,7 +66,12 @@ pub mod tests {
             let made: BTreeSet<String> = made.collect();
             let kept = fs::read_dir(path(folder)).unwrap();
             let kept = kept.map(|entry| entry.unwrap().file_name().into_string().unwrap());
-            let kept: BTreeSet<String> = kept.filter(|file| !file.ends_with(".md")).collect();
+            let is_made = |file: &String| {
+                [".exercise", ".statement"]
+                    .iter()
+                    .any(|kind| file.ends_with(kind))
+            };
+            let kept: BTreeSet<String> = kept.filter(is_made).collect();
             assert_eq!(kept, made, "{folder}");
         }
     }

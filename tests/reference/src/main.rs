@@ -1,12 +1,16 @@
 //! `reference CALL COUNT SEED` prints cases for a call, one a line, with the
 //! answer and the output that document 01 asks for. `reference exercise NAME`
 //! writes the bytes of `NAME.exercise`, a file of `examples/` or
-//! `tests/statements/`.
+//! `tests/statements/`. `reference statements COUNT SEED FOLDER` writes random
+//! exercise files to a folder, each beside the statement it comes to.
 
 use reference::cases::{check, hour, load, row, split};
 use reference::files;
+use reference::hour::statement;
 use reference::random::Random;
+use std::fs;
 use std::io::{self, BufWriter, Write};
+use std::path::Path;
 use std::process::ExitCode;
 
 /// The case of a turn.
@@ -22,35 +26,30 @@ const CALLS: [(&str, &str, Line); 5] = [
 
 fn main() -> ExitCode {
     let words: Vec<String> = std::env::args().skip(1).collect();
-    let (call, count, seed) = match words.as_slice() {
-        [word, name] if word == "exercise" => {
-            return match files::bytes(name) {
-                Some(bytes) => status(io::stdout().write_all(&bytes)),
-                None => usage(),
-            }
+    let words: Vec<&str> = words.iter().map(String::as_str).collect();
+    let done = match words.as_slice() {
+        ["exercise", name] => files::bytes(name).map(|bytes| io::stdout().write_all(&bytes)),
+        ["statements", count, seed, folder] => {
+            numbers(count, seed).map(|(count, seed)| keep(count, seed, Path::new(folder)))
         }
-        [call, count, seed] => (call, count.parse(), seed.parse()),
-        _ => return usage(),
+        [call, count, seed] => numbers(count, seed).and_then(|(count, seed)| {
+            let &(_, header, line) = CALLS.iter().find(|(name, ..)| name == call)?;
+            Some(print(header, line, count, seed))
+        }),
+        _ => None,
     };
-    let (count, seed) = match (count, seed) {
-        (Ok(count), Ok(seed)) => (count, seed),
-        _ => return usage(),
-    };
-    let (header, line) = match CALLS.iter().find(|(name, ..)| name == call) {
-        Some(&(_, header, line)) => (header, line),
-        None => return usage(),
-    };
-    status(print(header, line, count, seed))
-}
-
-fn status(done: io::Result<()>) -> ExitCode {
     match done {
-        Ok(()) => ExitCode::SUCCESS,
-        Err(error) => {
+        Some(Ok(())) => ExitCode::SUCCESS,
+        Some(Err(error)) => {
             eprintln!("reference: {error}");
             ExitCode::FAILURE
         }
+        None => usage(),
     }
+}
+
+fn numbers(count: &str, seed: &str) -> Option<(usize, u64)> {
+    Some((count.parse().ok()?, seed.parse().ok()?))
 }
 
 fn print(header: &str, line: Line, count: usize, seed: u64) -> io::Result<()> {
@@ -63,9 +62,20 @@ fn print(header: &str, line: Line, count: usize, seed: u64) -> io::Result<()> {
     out.flush()
 }
 
+fn keep(count: usize, seed: u64, folder: &Path) -> io::Result<()> {
+    let mut random = Random::new(seed);
+    for turn in 0..count {
+        let (file, _) = hour::draw(turn, &mut random);
+        fs::write(folder.join(format!("{turn}.exercise")), &file)?;
+        fs::write(folder.join(format!("{turn}.statement")), statement(&file))?;
+    }
+    Ok(())
+}
+
 fn usage() -> ExitCode {
     let names: Vec<&str> = CALLS.iter().map(|(name, ..)| *name).collect();
     eprintln!("usage: reference {} COUNT SEED", names.join("|"));
     eprintln!("       reference exercise NAME");
+    eprintln!("       reference statements COUNT SEED FOLDER");
     ExitCode::from(2)
 }
