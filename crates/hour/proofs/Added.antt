@@ -10,7 +10,8 @@ use Rattle.ints.specs.Table.{_at_}
 use Rattle.rows.specs.Row.{rowsIn}
 use Rattle.rows.specs.Transaction.{transactionsIn}
 use Rattle.exercise.specs.declared.Header.{Header}
-use Rattle.hour.specs.Given.{RowsAdded, SharesAdded, TransactionsAdded, BothAdded, Shared, Totals, pathPartIn}
+use Rattle.totals.specs.Given.{Totals, pathPartIn}
+use Rattle.hour.specs.Given.{RowsAdded, SharesAdded, TransactionsAdded, BothAdded, Shared}
 
 none : (z : ℤ) → Within z 0 → z ≡ pos 0
 none (pos n) w = ap pos (omega (arith, w .within))

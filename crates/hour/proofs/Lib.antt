@@ -1,4 +1,3 @@
-pub mod Weights
 pub mod Decoded
 pub mod Added
 pub mod Priced

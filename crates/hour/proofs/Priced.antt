@@ -19,7 +19,8 @@ use Rattle.rows.specs.declared.Transaction.{Transaction}
 use Rattle.exercise.specs.Price.{priceAt, pricesFrom, priceRefusal, pricesRefusal}
 use Rattle.exercise.proofs.Prices.{prices-within}
 use Rattle.tariff.specs.Tariff.{Prices, priceList}
-use Rattle.hour.specs.Given.{Listed, congestionCut, lossCut, Charged}
+use Rattle.totals.specs.Given.{Listed}
+use Rattle.hour.specs.Given.{congestionCut, lossCut, Charged}
 
 -- the numbers from one place to another
 between-places : (table : List ℤ) (j m to : ℕ) → to ≡ j + m → take (to - j) (drop j table) ≡ take m (drop j table)

@@ -33,13 +33,14 @@ use Rattle.credits.specs.Paid.{summed, paidRefusal}
 use Rattle.credits.proofs.Paid.{cents-most, split-accepts, credits-cents}
 use Rattle.credits.proofs.Theorems.{fair-credits, credits-sum, nets-sum, nets-within}
 use Rattle.hour.specs.Charges.{participants, congestionPrices, lossPrices, congestionTotal, lossTotal, congestionOf, lossOf, surplus, shareOf, shares, congestionCharges, lossCharges, credits, nets}
-use Rattle.hour.specs.Given.{Tables, partIn, pathPartIn, bothRefusal, sharesMost, hourMost}
+use Rattle.totals.specs.Given.{Tables, partIn, pathPartIn, sharesMost, hourMost}
+use Rattle.hour.specs.Given.{bothRefusal}
 use Rattle.hour.specs.Order.{outputs, hourRefusal, wholeRefusal}
-use Rattle.hour.specs.Share.{shareKw}
+use Rattle.totals.specs.Share.{shareKw}
 use Rattle.hour.proofs.Paid.{the-nets}
 use Rattle.hour.proofs.Parts.{some-participant}
 use Rattle.hour.proofs.Total.{rows-passed, transactions-passed, sums-to}
-use Rattle.hour.proofs.Weights.{tables, part-range, path-part-range, share-range}
+use Rattle.totals.proofs.Weights.{tables, part-range, path-part-range, share-range}
 
 -- ---- a participant's charge depends only on the prices and on its own rows and transactions
 

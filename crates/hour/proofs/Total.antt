@@ -22,7 +22,8 @@ use Rattle.exercise.specs.declared.Header.{Header}
 use Rattle.tariff.specs.Parts.{sign, aheadWeight, weight, weightIn, rowPart, transactionPart}
 use Rattle.tariff.specs.Tariff.{Prices, priceList, charge}
 use Rattle.tariff.proofs.Theorem.{same}
-use Rattle.hour.specs.Given.{partIn, pathPartIn, bothRefusal, BothAdded, Charged}
+use Rattle.totals.specs.Given.{partIn, pathPartIn}
+use Rattle.hour.specs.Given.{bothRefusal, BothAdded, Charged}
 
 -- every row and transaction of a stretch without a refusal has been tested
 every-row : (participants locations : ℕ) (s : List ℕ) (n : ℕ) → ((i : ℕ) → i < n → rowRefusalAt participants locations s i ≡ 0) → Every (RowTested participants locations) (rowsIn s n)

@@ -9,7 +9,7 @@ use Rattle.units.specs.Units.{centsOf}
 use Rattle.split.specs.Split.{parts}
 use Rattle.exercise.specs.File.{header, congestionAhead, congestionReal, lossAhead, lossReal, rows, transactions}
 use Rattle.tariff.specs.Tariff.{Prices, priceList, charge}
-use Rattle.hour.specs.Share.{shareKw}
+use Rattle.totals.specs.Share.{shareKw}
 
 abbrev pub participants : List ℕ → ℕ
 participants file = header file .participants

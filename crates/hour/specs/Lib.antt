@@ -1,4 +1,3 @@
-pub mod Share
 pub mod Given
 pub mod Charges
 pub mod Order

@@ -1,6 +1,6 @@
 -- The statement of document 01's file, and refused files, computed by the definitions. Assumes nothing.
 use mathlib.Core.Path.{_≡_, refl}
-use mathlib.Core.List.{[], _∷_}
+use mathlib.Core.List.{[]}
 use Rattle.ints.specs.Every.{owed}
 use Rattle.ints.specs.Sum.{Σℤ, sumTo, sumN}
 use Rattle.ints.specs.Table.{tab, all}

@@ -6,7 +6,7 @@ use Rattle.ints.specs.Table.{tab}
 use Rattle.tariff.specs.Parts.{aheadWeight}
 use Rattle.tariff.specs.Tariff.{priceList}
 use Rattle.hour.proofs.Total.{charged}
-use Rattle.hour.proofs.Weights.{tables}
+use Rattle.totals.proofs.Weights.{tables}
 use Rattle.hour.proofs.charge_listed.Statement.{statement}
 use Rattle.hour.proofs.charge_listed.Tie as tie
 

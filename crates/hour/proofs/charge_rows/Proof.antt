@@ -12,10 +12,10 @@ use Rattle.rows.specs.Row.{rowAt, rowsRefusal}
 use Rattle.rows.specs.Tested.{RowTested}
 use Rattle.rows.specs.declared.Row.{Row}
 use Rattle.rows.proofs.Answers.{row-next, row-first, row-some}
-use Rattle.hour.specs.Given.{partIn, Totals, sharesMost, rowsMost}
-use Rattle.hour.specs.Share.{shareKw}
+use Rattle.totals.specs.Given.{partIn, Totals, sharesMost, rowsMost}
+use Rattle.totals.specs.Share.{shareKw}
 use Rattle.hour.proofs.Decoded.{row-is, row-passed}
-use Rattle.hour.proofs.Weights.{part-range, share-range}
+use Rattle.totals.proofs.Weights.{part-range, share-range}
 use Rattle.hour.proofs.charge_rows.Statement.{statement}
 use Rattle.hour.proofs.charge_rows.Tie as tie
 

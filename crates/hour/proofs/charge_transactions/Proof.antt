@@ -12,9 +12,9 @@ use Rattle.rows.specs.Tested.{TransactionTested}
 use Rattle.rows.specs.Transaction.{transactionAt, transactionsRefusal}
 use Rattle.rows.specs.declared.Transaction.{Transaction}
 use Rattle.rows.proofs.Answers.{transaction-next, transaction-first, transaction-some}
-use Rattle.hour.specs.Given.{pathPartIn, Totals, rowsMost, hourMost}
+use Rattle.totals.specs.Given.{pathPartIn, Totals, rowsMost, hourMost}
 use Rattle.hour.proofs.Decoded.{transaction-is, transaction-passed}
-use Rattle.hour.proofs.Weights.{path-part-range}
+use Rattle.totals.proofs.Weights.{path-part-range}
 use Rattle.hour.proofs.charge_transactions.Statement.{statement}
 use Rattle.hour.proofs.charge_transactions.Tie as tie
 

@@ -12,7 +12,7 @@ use Rattle.ints.proofs.Ranges.{zeros-range}
 use Rattle.ints.proofs.Refusals.{lent-before}
 use Rattle.ints.proofs.Turns.{then-ends, then-follows}
 use Rattle.exercise.proofs.Whole.{small}
-use Rattle.hour.specs.Given.{Totals}
+use Rattle.totals.specs.Given.{Totals}
 use Rattle.hour.proofs.Paid.{congestion-charges, loss-charges, the-shares, the-refusal, the-credits, net-lists}
 use Rattle.hour.proofs.Parts.{some-participant}
 use Rattle.hour.proofs.settle_whole.Statement.{statement}

@@ -25,8 +25,8 @@ use Rattle.rows.specs.declared.Transaction.{Transaction}
 use Rattle.exercise.specs.Price.{intervalOf}
 use Rattle.tariff.specs.Parts.{sign, aheadWeight, weightIn}
 use Rattle.tariff.specs.Tariff.{Prices, priceList, P, C}
-use Rattle.hour.specs.Given.{Listed, Tables, partIn, pathPartIn}
-use Rattle.hour.specs.Share.{isShare, shareKw}
+use Rattle.totals.specs.Given.{Listed, Tables, partIn, pathPartIn}
+use Rattle.totals.specs.Share.{isShare, shareKw}
 
 -- ---- of a price list: what a day-ahead kW counts when the first k intervals are taken back
 

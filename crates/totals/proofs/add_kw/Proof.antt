@@ -1,10 +1,10 @@
--- `hour::add_kw` meets its contract. Assumes nothing.
+-- `totals::add_kw` meets its contract. Assumes nothing.
 use native.Mathlib.Omega.{arith}
 use mir.Syntax.{w64}
 use mir.Facts.{toZ-pos}
 use borrow.Author.Needs.{needs}
-use Rattle.hour.proofs.add_kw.Statement.{statement}
-use Rattle.hour.proofs.add_kw.Tie as tie
+use Rattle.totals.proofs.add_kw.Statement.{statement}
+use Rattle.totals.proofs.add_kw.Tie as tie
 
 mul-shares : tie.Need-mul-shares
 mul-shares c = search needs

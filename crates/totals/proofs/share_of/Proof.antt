@@ -1,11 +1,11 @@
--- `hour::share_of` meets its contract. Assumes nothing.
+-- `totals::share_of` meets its contract. Assumes nothing.
 use mathlib.Core.Path.{sym, ap, _∙_}
 use mathlib.Core.Bool.{Bool}
 use lib.IntN.{pos}
 use borrow.Author.Needs.{needs}
 use Rattle.ints.specs.Sum.{only}
-use Rattle.hour.proofs.share_of.Statement.{statement}
-use Rattle.hour.proofs.share_of.Tie as tie
+use Rattle.totals.proofs.share_of.Statement.{statement}
+use Rattle.totals.proofs.share_of.Tie as tie
 
 is-share-requires : tie.Need-is-share-requires
 is-share-requires c κs = search needs

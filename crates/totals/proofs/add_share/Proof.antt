@@ -1,4 +1,4 @@
--- `hour::add_share` meets its contract. Assumes nothing.
+-- `totals::add_share` meets its contract. Assumes nothing.
 use mathlib.Core.Path.{ap, _∙_}
 use native.Mathlib.Omega.{arith}
 use lib.IntN.{ℤ, _+ℤ_}
@@ -6,9 +6,9 @@ use lib.ListN.{set}
 use borrow.Author.Needs.{needs}
 use Rattle.ints.specs.Table.{_at_}
 use Rattle.ints.proofs.Sizes.{w-add, w-fits}
-use Rattle.hour.proofs.Weights.{share-range}
-use Rattle.hour.proofs.add_share.Statement.{statement}
-use Rattle.hour.proofs.add_share.Tie as tie
+use Rattle.totals.proofs.Weights.{share-range}
+use Rattle.totals.proofs.add_share.Statement.{statement}
+use Rattle.totals.proofs.add_share.Tie as tie
 
 cast-add-kw : tie.Need-cast-add-kw
 cast-add-kw c = search needs

@@ -1,4 +1,4 @@
--- `hour::add_transaction` meets its contract. Assumes nothing.
+-- `totals::add_transaction` meets its contract. Assumes nothing.
 use mathlib.Core.Path.{_≡_, ap, ap₂, _∙_}
 use native.Mathlib.Omega.{arith}
 use lib.IntN.{ℤ, pos, _+ℤ_, _-ℤ_, _*ℤ_}
@@ -7,10 +7,10 @@ use borrow.Author.Needs.{needs}
 use Rattle.ints.specs.Table.{_at_}
 use Rattle.ints.proofs.Sizes.{w-add, w-fits}
 use Rattle.rows.proofs.Tested.{interval-below}
-use Rattle.hour.specs.Given.{pathPartIn}
-use Rattle.hour.proofs.Weights.{weight-range, path-part-range}
-use Rattle.hour.proofs.add_transaction.Statement.{statement}
-use Rattle.hour.proofs.add_transaction.Tie as tie
+use Rattle.totals.specs.Given.{pathPartIn}
+use Rattle.totals.proofs.Weights.{weight-range, path-part-range}
+use Rattle.totals.proofs.add_transaction.Statement.{statement}
+use Rattle.totals.proofs.add_transaction.Tie as tie
 use denote.Ref.{now}
 
 -- what is added is the transaction's part

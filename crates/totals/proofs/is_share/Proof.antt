@@ -1,7 +1,7 @@
--- `hour::is_share` meets its contract. Assumes nothing.
+-- `totals::is_share` meets its contract. Assumes nothing.
 use borrow.Author.Tests.{eq-eqb, ne-eqb}
-use Rattle.hour.proofs.is_share.Statement.{statement}
-use Rattle.hour.proofs.is_share.Tie as tie
+use Rattle.totals.proofs.is_share.Statement.{statement}
+use Rattle.totals.proofs.is_share.Tie as tie
 
 returns : tie.Need-returns
 returns c = simp (eq-eqb _ _ (c .before .if1 .taken), eq-eqb _ _ (c .if2 .taken))

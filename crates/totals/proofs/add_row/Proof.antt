@@ -1,4 +1,4 @@
--- `hour::add_row` meets its contract. Assumes nothing.
+-- `totals::add_row` meets its contract. Assumes nothing.
 use mathlib.Core.Path.{_≡_, ap, _∙_}
 use native.Mathlib.Omega.{arith}
 use lib.IntN.{ℤ, pos, _+ℤ_, _*ℤ_}
@@ -8,10 +8,10 @@ use Rattle.ints.specs.Table.{_at_}
 use Rattle.ints.proofs.Sizes.{w-add, w-fits}
 use Rattle.rows.proofs.Tested.{interval-below}
 use Rattle.tariff.specs.Parts.{sign}
-use Rattle.hour.specs.Given.{partIn}
-use Rattle.hour.proofs.Weights.{weight-range, part-range}
-use Rattle.hour.proofs.add_row.Statement.{statement}
-use Rattle.hour.proofs.add_row.Tie as tie
+use Rattle.totals.specs.Given.{partIn}
+use Rattle.totals.proofs.Weights.{weight-range, part-range}
+use Rattle.totals.proofs.add_row.Statement.{statement}
+use Rattle.totals.proofs.add_row.Tie as tie
 use denote.Ref.{now}
 
 -- what is added is the row's part
