@@ -217,10 +217,10 @@ uint32_t wz_assign_load(int64_t metered, int64_t distributor,
  * where no real-time row does. A transaction costs its kW times the price at
  * its sink less the price at its source; in real time, in each interval and at
  * its prices over 12, only the excess over the participant's own day-ahead kW
- * of the same path counts, and a shortfall is paid back. Rows alike add up.
- * Congestion and loss use the same rule with different prices. A participant's
- * exact total of either is rounded once, to the nearest cent, halves away from
- * zero.
+ * of the same path counts, and a shortfall is paid back. Rows alike add up, and
+ * so do transactions. Congestion and loss use the same rule with different
+ * prices. A participant's exact total of either is rounded once, to the nearest
+ * cent, halves away from zero.
  *
  * The surplus is the sum of all rounded loss charges. It is split, as wz_split
  * does, over the participants by the kW of their real-time load and exports
