@@ -1,7 +1,7 @@
 -- Rounding in place, copying, and the surplus split: what the functions need. Assumes nothing.
 use mathlib.Core.Path.{_≡_, refl, sym, ap, ap₂, _∙_, subst}
 use mathlib.Core.Logic.{_≢_, ⊎-elim}
-use mathlib.Core.Bool.{Bool, true, false, _||_}
+use mathlib.Core.Bool.{Bool, true, false, _||_, _&&_}
 use mathlib.Core.List.{List, [], _∷_, _++_}
 use Prim.Native.Nat.{ℕ, _+_, _≤_, _<_}
 use native.Mathlib.Nat.{eq-or-lt-of-le}
@@ -11,7 +11,7 @@ use lib.Dec.{ltb, eqb}
 use lib.IntN.{ℤ, pos, negℤ, natAbs}
 use lib.ListN.{length, take, set}
 use lib.Seq.{take-all, take-suc, take-suc-set, getD-set-other}
-use lib.Signed.{natAbs-le}
+use lib.Signed.{leZ, natAbs-le}
 use mir.Syntax.{w64}
 use mir.Val.{SFits}
 use borrow.Author.Tests.{le-leb, eq-eqb, ne-eqb}
@@ -26,8 +26,8 @@ use Rattle.units.specs.Units.{wholeCents, centsOf}
 use Rattle.split.specs.Split.{total, part, parts, refusal}
 use Rattle.split.proofs.Accepted.{accepted}
 use Rattle.split.proofs.Laws.{length-parts, part-most, no-size}
-use Rattle.credits.specs.Facts.{mostCents}
-use Rattle.credits.specs.Paid.{rounded, paidRefusal}
+use Rattle.credits.specs.Facts.{mostCents, Natural}
+use Rattle.credits.specs.Paid.{rounded, notAbove, paidRefusal}
 
 -- ---- rounding
 
@@ -91,11 +91,17 @@ copied-all from to i f t h = sym (take-all i to (omega arith)) ∙ h ∙ take-al
 
 -- ---- the order, from the split's
 
-module _ (surplus : ℤ) (shares : List ℤ) (n : ℕ) (some : 1 ≤ length shares) (few : length shares ≤ 64) (same : n ≡ length shares) where
+-- where no share is below 0, the split's range says no more than its upper end
+in-range : (k : ℕ) (list : List ℤ) → Natural list → all (between (pos 0) (pos k)) list ≡ all (notAbove k) list
+unfolding all
+in-range k [] none = refl
+in-range k (x ∷ xs) (e, more) = ap₂ (λ (low rest : Bool). (low && leZ x (pos k)) && rest) e (in-range k xs more)
+
+module _ (surplus : ℤ) (shares : List ℤ) (n : ℕ) (some : 1 ≤ length shares) (few : length shares ≤ 64) (natural : Natural shares) (same : n ≡ length shares) where
   -- the split's 2 is a 10 here, and else the numbers are the same
   renumbered : paidRefusal surplus shares ≡ pick (eqb (refusal surplus shares n) 2) 10 (refusal surplus shares n)
   unfolding paidRefusal refusal
-  renumbered = simp (le-leb 1 (length shares) some, le-leb (length shares) 64 few, eq-eqb n (length shares) same) (by (between (negℤ (pos 1000000000)) (pos 1000000000) surplus) (all (between (pos 0) (pos 4000000000)) shares) (ltb 0 (total shares) || eqb (natAbs surplus) 0))
+  renumbered = simp (le-leb 1 (length shares) some, le-leb (length shares) 64 few, eq-eqb n (length shares) same, in-range 4000000000 shares natural) (by (between (negℤ (pos 1000000000)) (pos 1000000000) surplus) (all (notAbove 4000000000) shares) (ltb 0 (total shares) || eqb (natAbs surplus) 0))
     where
       by : (a b c : Bool) → unless a 10 (unless b 10 (unless c 7 0)) ≡ pick (eqb (unless a 2 (unless b 2 (unless c 7 0))) 2) 10 (unless a 2 (unless b 2 (unless c 7 0)))
       by false b c = refl

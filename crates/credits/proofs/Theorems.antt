@@ -15,14 +15,14 @@ use Rattle.split.specs.Fair.{Fair}
 use Rattle.split.specs.Split.{parts}
 use Rattle.split.proofs.Demand3.{fair}
 use Rattle.split.proofs.Laws.{length-parts}
-use Rattle.credits.specs.Facts.{mostCents, mostNet}
+use Rattle.credits.specs.Facts.{mostCents, mostNet, Natural}
 use Rattle.credits.specs.Paid.{summed, paidRefusal, netAt, netted}
 use Rattle.credits.proofs.Paid.{split-accepts}
 
-module _ (surplus : ℤ) (shares : List ℤ) (some : 1 ≤ length shares) (few : length shares ≤ 64) (accepts : paidRefusal surplus shares ≡ 0) where
+module _ (surplus : ℤ) (shares : List ℤ) (some : 1 ≤ length shares) (few : length shares ≤ 64) (natural : Natural shares) (accepts : paidRefusal surplus shares ≡ 0) where
   -- demand 3 of the credits: document 01's trap "Rounding each credit alone, or giving the odd cents to the last party"
   pub fair-credits : Fair surplus shares (parts surplus shares)
-  fair-credits = fair surplus shares (length shares) (split-accepts surplus shares (length shares) some few refl accepts)
+  fair-credits = fair surplus shares (length shares) (split-accepts surplus shares (length shares) some few natural refl accepts)
 
   pub credits-sum : summed (parts surplus shares) ≡ surplus
   credits-sum = ap (sumTo (λ p. parts surplus shares at p)) (length-parts surplus shares) ∙ fair-credits .adds-up

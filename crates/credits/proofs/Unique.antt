@@ -1,4 +1,4 @@
--- Each public contract allows one result, and of `pay` one content of each of the six lists that are lent to be written: two that it allows at the same arguments are equal. Assumes nothing.
+-- Each public contract allows one result, and of `pay` one content of each of the four lists that are lent to be written: two that it allows at the same arguments are equal. Assumes nothing.
 -- `F.Post` is the `ensures` of F, over lifetimes, arguments, result and what the lent lists hold at exit.
 use mathlib.Core.Path.{_≡_, subst}
 use Prim.Native.Nat.{ℕ}
@@ -6,15 +6,17 @@ use lib.IntN.{ℤ}
 use contract.Lifetimes.{Lfts}
 use Rattle.ints.proofs.Unique.{unique}
 use Rattle.credits.proofs.pay.Reads as pay
+use Rattle.credits.proofs.round.Reads as round
 use Rattle.credits.proofs.sum.Reads as sum
 
 pub sum-unique : (κs : Lfts 1) (a : _) (r s : ℤ) (e f : _) → sum.Post κs a r e → sum.Post κs a s f → r ≡ s
 sum-unique κs a r s e f p q = unique p q
 
+pub round-unique : (κs : Lfts 1) (a : _) (r s : _) (e f : _) → round.Post κs a r e → round.Post κs a s f → e .0 .now ≡ f .0 .now
+round-unique κs a r s e f p q = unique (p .0) (q .0)
+
 pub pay-unique : (κs : Lfts 7) (a : _) (r s : ℕ) (e f : _) → pay.Post κs a r e → pay.Post κs a s f
     → (r ≡ s)
-    × (e .0 .now ≡ f .0 .now)
-    × (e .1 .0 .now ≡ f .1 .0 .now)
     × (e .1 .1 .1 .0 .now ≡ f .1 .1 .1 .0 .now)
     × (e .1 .1 .1 .1 .0 .now ≡ f .1 .1 .1 .1 .0 .now)
     × (e .1 .1 .1 .1 .1 .0 .now ≡ f .1 .1 .1 .1 .1 .0 .now)
@@ -25,7 +27,5 @@ pay-unique κs a r s e f p q =
       unique (p .1 .0) (t .1 .0),
       unique (p .1 .1 .0) (t .1 .1 .0),
       unique (p .1 .1 .1 .0) (t .1 .1 .1 .0),
-      unique (p .1 .1 .1 .1 .0) (t .1 .1 .1 .1 .0),
-      unique (p .1 .1 .1 .1 .1 .0) (t .1 .1 .1 .1 .1 .0),
-      unique (p .1 .1 .1 .1 .1 .1) (t .1 .1 .1 .1 .1 .1),
+      unique (p .1 .1 .1 .1) (t .1 .1 .1 .1),
     )

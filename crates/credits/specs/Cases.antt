@@ -6,7 +6,7 @@ use Rattle.ints.specs.Sum.{sumN, sumTo}
 use Rattle.ints.specs.Table.{tab, all}
 use Rattle.units.specs.Units.{centsOf}
 use Rattle.split.specs.Split.{total, cutDown, remainder, unitsLeft, before, place, part, parts}
-use Rattle.credits.specs.Paid.{rounded, surplusOf, paidRefusal, netted}
+use Rattle.credits.specs.Paid.{rounded, summed, paidRefusal, netted}
 
 -- what the two participants lost, in twelfths, and their load and exports in real time
 abbrev lost : List ℤ
@@ -19,7 +19,7 @@ pub loss-charges : rounded lost ≡ pos 1000 ∷ pos 390 ∷ []
 unfolding rounded tab centsOf
 loss-charges = refl
 
-pub surplus : surplusOf lost ≡ pos 1390
+pub surplus : summed (rounded lost) ≡ pos 1390
 unfolding rounded tab centsOf sumTo
 surplus = refl
 

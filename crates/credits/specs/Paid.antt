@@ -1,10 +1,11 @@
 -- From exact charges to billed cents (document 01, "Charges" and "Surplus and credits"). A list has a number for each participant, in order. Assumes nothing.
-use mathlib.Core.Bool.{_||_}
+use mathlib.Core.Bool.{Bool, _||_}
 use mathlib.Core.List.{List}
 use Prim.Native.Nat.{ℕ}
 use lib.Dec.{ltb, eqb}
 use lib.IntN.{ℤ, pos, negℤ, natAbs, _+ℤ_, _-ℤ_}
 use lib.ListN.{length}
+use lib.Signed.{leZ}
 use Rattle.ints.specs.Number.{between}
 use Rattle.ints.specs.Refusal.{unless}
 use Rattle.ints.specs.Sum.{sumTo}
@@ -20,16 +21,15 @@ rounded exact = tab (λ p. centsOf (exact at p)) (length exact)
 abbrev pub summed : List ℤ → ℤ
 summed cents = sumTo (λ p. cents at p) (length cents)
 
--- "The surplus is the sum of all rounded loss charges", of the exact ones
-abbrev pub surplusOf : List ℤ → ℤ
-surplusOf lost = summed (rounded lost)
-
 -- "Order for an hour: .. 10; 7", of the surplus and each participant's share.
 -- 10: "surplus beyond 1,000,000,000 cents in size, or a participant's share above 4,000,000,000"; 7: "shares total 0 and the amount isn't 0"
+abbrev pub notAbove : ℕ → ℤ → Bool
+notAbove most share = leZ share (pos most)
+
 unfoldable pub paidRefusal : ℤ → List ℤ → ℕ
 paidRefusal surplus shares =
     unless (between (negℤ (pos 1000000000)) (pos 1000000000) surplus) 10
-    (unless (all (between (pos 0) (pos 4000000000)) shares) 10
+    (unless (all (notAbove 4000000000) shares) 10
     (unless (ltb 0 (total shares) || eqb (natAbs surplus) 0) 7
     0))
 

@@ -8,12 +8,12 @@ ghost use Rattle.ints.specs.Range.{InRange};
 ghost use Rattle.ints.specs.Refusal.{lent};
 ghost use Rattle.split.specs.Split.{parts};
 ghost use Rattle.credits.specs.Facts.{Lists, mostCents, mostNet};
-ghost use Rattle.credits.specs.Paid.{rounded, summed, surplusOf, paidRefusal, netted};
+ghost use Rattle.credits.specs.Paid.{rounded, summed, paidRefusal, netted};
 use units::Cents;
 use units::Twelfths;
 
 // Every number of a list rounded, from twelfths to cents.
-fn round(list: &mut [i64])
+pub fn round(list: &mut [i64])
     ensures { λ _. ⌜ now (list .exit) ≡ rounded (now (list .entry)) ⌝ }
     ensures { λ _. ⌜ InRange (now (list .exit)) mostCents ⌝ }
 {
@@ -49,52 +49,47 @@ fn net_of(congestion: Cents, loss: Cents, credit: Cents) -> Cents
 
 // The charges and the net into the lists of the hour.
 fn write_out(
-    charged: &[i64],
-    lost: &[i64],
+    charges: &[i64],
+    losses: &[i64],
     credit: &[i64],
     congestion: &mut [i64],
     loss: &mut [i64],
     net: &mut [i64],
 )
-    requires { ⌜ Lists (length (now charged)) (now charged) (now lost) (now congestion) (now loss) (now credit) (now net) ⌝ }
-    requires { ⌜ InRange (now charged) mostCents × InRange (now lost) mostCents × InRange (now credit) mostCents ⌝ }
-    ensures { λ _. ⌜ now (congestion .exit) ≡ now (charged .entry) ⌝ }
-    ensures { λ _. ⌜ now (loss .exit) ≡ now (lost .entry) ⌝ }
-    ensures { λ _. ⌜ now (net .exit) ≡ netted (now (charged .entry)) (now (lost .entry)) (now (credit .entry)) ⌝ }
+    requires { ⌜ (length (now losses) ≡ length (now charges)) × (length (now credit) ≡ length (now charges)) × (length (now congestion) ≡ length (now charges)) × (length (now loss) ≡ length (now charges)) × (length (now net) ≡ length (now charges)) ⌝ }
+    requires { ⌜ InRange (now charges) mostCents × InRange (now losses) mostCents × InRange (now credit) mostCents ⌝ }
+    ensures { λ _. ⌜ now (congestion .exit) ≡ now (charges .entry) ⌝ }
+    ensures { λ _. ⌜ now (loss .exit) ≡ now (losses .entry) ⌝ }
+    ensures { λ _. ⌜ now (net .exit) ≡ netted (now (charges .entry)) (now (losses .entry)) (now (credit .entry)) ⌝ }
 {
     let mut i: usize = 0;
-    while i < charged.len() {
-        let cents = net_of(Cents(charged[i]), Cents(lost[i]), Cents(credit[i])).0;
-        congestion[i] = charged[i];
-        loss[i] = lost[i];
+    while i < charges.len() {
+        let cents = net_of(Cents(charges[i]), Cents(losses[i]), Cents(credit[i])).0;
+        congestion[i] = charges[i];
+        loss[i] = losses[i];
         net[i] = cents;
         i += 1;
     }
 }
 
-// An hour's charges rounded, the surplus split over the shares, and each participant's net. `charged` and `lost`, the
-// exact congestion and loss charges, become cents whatever the answer is.
+// An hour's congestion and loss charges, in cents, billed: the surplus split over the shares, and each participant's net.
 pub fn pay(
-    charged: &mut [i64],
-    lost: &mut [i64],
+    charges: &[i64],
+    losses: &[i64],
     shares: &[i64],
     congestion: &mut [i64],
     loss: &mut [i64],
     credit: &mut [i64],
     net: &mut [i64],
 ) -> u32
-    requires { ⌜ Lists (length (now shares)) (now charged) (now lost) (now congestion) (now loss) (now credit) (now net) ⌝ }
-    ensures { λ r. ⌜ r ≡ paidRefusal (surplusOf (now (lost .entry))) (now (shares .entry)) ⌝ }
-    ensures { λ _. ⌜ now (charged .exit) ≡ rounded (now (charged .entry)) ⌝ }
-    ensures { λ _. ⌜ now (lost .exit) ≡ rounded (now (lost .entry)) ⌝ }
-    ensures { λ r. ⌜ now (congestion .exit) ≡ lent r (rounded (now (charged .entry))) (now (congestion .entry)) ⌝ }
-    ensures { λ r. ⌜ now (loss .exit) ≡ lent r (rounded (now (lost .entry))) (now (loss .entry)) ⌝ }
-    ensures { λ r. ⌜ now (credit .exit) ≡ lent r (parts (surplusOf (now (lost .entry))) (now (shares .entry))) (now (credit .entry)) ⌝ }
-    ensures { λ r. ⌜ now (net .exit) ≡ lent r (netted (rounded (now (charged .entry))) (rounded (now (lost .entry))) (parts (surplusOf (now (lost .entry))) (now (shares .entry)))) (now (net .entry)) ⌝ }
+    requires { ⌜ Lists (now charges) (now losses) (now shares) (now congestion) (now loss) (now credit) (now net) ⌝ }
+    ensures { λ r. ⌜ r ≡ paidRefusal (summed (now (losses .entry))) (now (shares .entry)) ⌝ }
+    ensures { λ r. ⌜ now (congestion .exit) ≡ lent r (now (charges .entry)) (now (congestion .entry)) ⌝ }
+    ensures { λ r. ⌜ now (loss .exit) ≡ lent r (now (losses .entry)) (now (loss .entry)) ⌝ }
+    ensures { λ r. ⌜ now (credit .exit) ≡ lent r (parts (summed (now (losses .entry))) (now (shares .entry))) (now (credit .entry)) ⌝ }
+    ensures { λ r. ⌜ now (net .exit) ≡ lent r (netted (now (charges .entry)) (now (losses .entry)) (parts (summed (now (losses .entry))) (now (shares .entry)))) (now (net .entry)) ⌝ }
 {
-    round(charged);
-    round(lost);
-    let surplus = sum(lost);
+    let surplus = sum(losses);
     let refusal = split::split(surplus, shares, credit);
     if refusal == 2 {
         return 10;
@@ -102,6 +97,6 @@ pub fn pay(
     if refusal != 0 {
         return refusal;
     }
-    write_out(charged, lost, credit, congestion, loss, net);
+    write_out(charges, losses, credit, congestion, loss, net);
     0
 }

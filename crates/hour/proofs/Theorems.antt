@@ -37,7 +37,7 @@ use Rattle.totals.specs.Given.{Tables, partIn, pathPartIn, sharesMost, hourMost
 use Rattle.hour.specs.Given.{bothRefusal}
 use Rattle.hour.specs.Order.{outputs, hourRefusal, wholeRefusal}
 use Rattle.totals.specs.Share.{shareKw}
-use Rattle.hour.proofs.Paid.{the-nets}
+use Rattle.hour.proofs.Paid.{shares-natural, the-nets}
 use Rattle.hour.proofs.Parts.{some-participant}
 use Rattle.hour.proofs.Total.{rows-passed, transactions-passed, sums-to}
 use Rattle.totals.proofs.Weights.{tables, part-range, path-part-range, share-range}
@@ -85,7 +85,7 @@ module _ (file : List ℕ) (congestion loss credit net : ℕ) (accepts : hourRef
   -- demand 3, of the credits
   pub fair : Fair (surplus file) (shares file) (credits file)
   unfolding credits
-  fair = fair-credits (surplus file) (shares file) some few (passes .2)
+  fair = fair-credits (surplus file) (shares file) some few (shares-natural file) (passes .2)
 
   -- each of the four lists has a number for each participant
   pub congestions-length : length (congestionCharges file) ≡ count
@@ -106,7 +106,7 @@ module _ (file : List ℕ) (congestion loss credit net : ℕ) (accepts : hourRef
   -- their totals
   credits-total : summed (credits file) ≡ surplus file
   unfolding credits
-  credits-total = credits-sum (surplus file) (shares file) some few (passes .2)
+  credits-total = credits-sum (surplus file) (shares file) some few (shares-natural file) (passes .2)
 
   losses-total : summed (lossCharges file) ≡ surplus file
   unfolding lossCharges surplus
@@ -182,7 +182,7 @@ module _ (file : List ℕ) (congestion loss credit net : ℕ) (accepts : hourRef
 
   pub credit-cents : InRange (credits file) mostCents
   unfolding credits
-  credit-cents = credits-cents (surplus file) (shares file) (length (shares file)) (split-accepts (surplus file) (shares file) (length (shares file)) some few refl (passes .2))
+  credit-cents = credits-cents (surplus file) (shares file) (length (shares file)) (split-accepts (surplus file) (shares file) (length (shares file)) some few (shares-natural file) refl (passes .2))
 
   pub net-cents : InRange (nets file) mostNet
   net-cents =

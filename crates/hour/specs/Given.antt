@@ -15,6 +15,7 @@ use Rattle.exercise.specs.File.{priceCount}
 use Rattle.exercise.specs.Price.{pricesFrom, pricesRefusal}
 use Rattle.exercise.specs.declared.Header.{Header}
 use Rattle.tariff.specs.Tariff.{Prices, priceList, charge}
+use Rattle.credits.specs.Facts.{Natural}
 use Rattle.totals.specs.Given.{partIn, pathPartIn}
 use Rattle.totals.specs.Share.{shareKw}
 
@@ -76,6 +77,19 @@ pub record Charged (prices : Prices) (rows : List Row) (transactions : List Tran
 
 pub record Shared (rows : List Row) (shares : List ℤ) : Type 0 where
   pub each : (p : ℕ) → shares at p ≡ owed (λ r. r .participant) shareKw rows p
+
+-- ---- what billing is given: lists with a number for each of 1 to 64 participants, and no share below 0
+
+pub record Bills (charged lost shares congestion loss credit net : List ℤ) : Type 0 where
+  pub some : 1 ≤ length shares
+  pub few : length shares ≤ 64
+  pub charged-each : length charged ≡ length shares
+  pub lost-each : length lost ≡ length shares
+  pub congestion-each : length congestion ≡ length shares
+  pub loss-each : length loss ≡ length shares
+  pub credit-each : length credit ≡ length shares
+  pub net-each : length net ≡ length shares
+  pub natural : Natural shares
 
 -- ---- the four output lists, as long as the participants
 

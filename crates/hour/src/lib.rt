@@ -4,13 +4,15 @@ ghost use Prim.Native.Nat.{_*_, _≤_};
 ghost use lib.ListN.{length};
 ghost use Rattle.ints.specs.Range.{InRange};
 ghost use Rattle.ints.specs.Refusal.{lent};
+ghost use Rattle.split.specs.Split.{parts};
 ghost use Rattle.rows.specs.Row.{rowsIn, rowsRefusal};
 ghost use Rattle.rows.specs.Transaction.{transactionsIn, transactionsRefusal};
 ghost use Rattle.exercise.specs.Price.{pricesFrom, pricesRefusal};
 ghost use Rattle.exercise.specs.File.{priceCount, rows, transactions, throughLength, fromPrices};
 ghost use Rattle.tariff.specs.Tariff.{priceList};
+ghost use Rattle.credits.specs.Paid.{rounded, summed, paidRefusal, netted};
 ghost use Rattle.totals.specs.Given.{Listed, Tables, Totals, rowsMost};
-ghost use Rattle.hour.specs.Given.{RowsAdded, SharesAdded, TransactionsAdded, bothRefusal, BothAdded, congestionCut, lossCut, Parts, partsRefusal, congestionIn, lossIn, Charged, Shared, Outputs};
+ghost use Rattle.hour.specs.Given.{RowsAdded, SharesAdded, TransactionsAdded, bothRefusal, BothAdded, congestionCut, lossCut, Parts, partsRefusal, congestionIn, lossIn, Charged, Shared, Bills, Outputs};
 ghost use Rattle.hour.specs.Charges.{participants, congestionPrices, lossPrices, congestionCharges, lossCharges, credits, nets};
 ghost use Rattle.hour.specs.Order.{hourRefusal, wholeRefusal};
 use exercise::DecodedRow;
@@ -343,6 +345,28 @@ fn charge_file(file: &[u8], charged: &mut [i64], lost: &mut [i64], shares: &mut 
     )
 }
 
+// Exact charges, rounded and billed.
+fn bill(
+    charged: &mut [i64],
+    lost: &mut [i64],
+    shares: &[i64],
+    congestion: &mut [i64],
+    loss: &mut [i64],
+    credit: &mut [i64],
+    net: &mut [i64],
+) -> u32
+    requires { ⌜ Bills (now charged) (now lost) (now shares) (now congestion) (now loss) (now credit) (now net) ⌝ }
+    ensures { λ r. ⌜ r ≡ paidRefusal (summed (rounded (now (lost .entry)))) (now (shares .entry)) ⌝ }
+    ensures { λ r. ⌜ now (congestion .exit) ≡ lent r (rounded (now (charged .entry))) (now (congestion .entry)) ⌝ }
+    ensures { λ r. ⌜ now (loss .exit) ≡ lent r (rounded (now (lost .entry))) (now (loss .entry)) ⌝ }
+    ensures { λ r. ⌜ now (credit .exit) ≡ lent r (parts (summed (rounded (now (lost .entry)))) (now (shares .entry))) (now (credit .entry)) ⌝ }
+    ensures { λ r. ⌜ now (net .exit) ≡ lent r (netted (rounded (now (charged .entry))) (rounded (now (lost .entry))) (parts (summed (rounded (now (lost .entry)))) (now (shares .entry)))) (now (net .entry)) ⌝ }
+{
+    credits::round(charged);
+    credits::round(lost);
+    credits::pay(charged, lost, shares, congestion, loss, credit, net)
+}
+
 // An hour of a file that passes the order to its length, into lists as long as the participants.
 fn settle_whole(
     file: &[u8],
@@ -367,7 +391,7 @@ fn settle_whole(
         return refusal;
     }
     let n = congestion.len();
-    credits::pay(
+    bill(
         &mut charged[..n],
         &mut lost[..n],
         &shares[..n],

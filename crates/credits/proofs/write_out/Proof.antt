@@ -19,18 +19,18 @@ use Rattle.credits.proofs.write_out.Statement.{statement}
 use Rattle.credits.proofs.write_out.Tie as tie
 
 abbrev Inv-loop : tie.InvT-loop
-Inv-loop charged lost credit congestion₀ loss₀ net₀ i₀ congestion loss net i = (i ≤ length charged) × (length congestion ≡ length charged) × (length loss ≡ length charged) × (length net ≡ length charged)
-    × (take i congestion ≡ take i charged) × (take i loss ≡ take i lost) × (take i net ≡ tab (netAt charged lost credit) i)
+Inv-loop charges losses credit congestion₀ loss₀ net₀ i₀ congestion loss net i = (i ≤ length charges) × (length congestion ≡ length charges) × (length loss ≡ length charges) × (length net ≡ length charges)
+    × (take i congestion ≡ take i charges) × (take i loss ≡ take i losses) × (take i net ≡ tab (netAt charges losses credit) i)
 
 abbrev μ-loop : tie.MeasureT-loop
-μ-loop charged lost credit congestion₀ loss₀ net₀ i₀ congestion loss net i = length charged - i
+μ-loop charges losses credit congestion₀ loss₀ net₀ i₀ congestion loss net i = length charges - i
 
 -- what is read stays as it is, and within its bound
 read-in : {x : ℤ} → Within x mostCents → Within (toZ w64 (ofZ w64 x)) mostCents
 read-in w = subst (λ (z : ℤ). Within z mostCents) (sym (w-read w tt)) w
 
 -- the net is that of the definition
-net-is : (c : tie.After-struct-told Inv-loop μ-loop) → let l = c .before .before .before .before .before .before in let a = l .before .args in toZ w64 (ofZ w64 (c .before .net-of .result .0)) ≡ netAt (a .charged .now) (a .lost .now) (a .credit .now) (l .loop .i)
+net-is : (c : tie.After-struct-told Inv-loop μ-loop) → let l = c .before .before .before .before .before .before in let a = l .before .args in toZ w64 (ofZ w64 (c .before .net-of .result .0)) ≡ netAt (a .charges .now) (a .losses .now) (a .credit .now) (l .loop .i)
 net-is c = let l = c .before .before .before .before .before .before in
     let p = l .before .pre .1 in
     let i = l .loop .i in
@@ -107,8 +107,8 @@ loop-again c = let n = c .before .before in
       simp length-set (v .1),
       simp length-set (v .2),
       simp length-set (v .3),
-      copied (s .args .charged .now) (l .loop .congestion) (l .loop .i) _ (search needs) (search needs) (w-read (s .pre .1 .0 .each (l .loop .i)) tt) (v .4),
-      copied (s .args .lost .now) (l .loop .loss) (l .loop .i) _ (search needs) (search needs) (w-read (s .pre .1 .1 .each (l .loop .i)) tt) (v .5),
+      copied (s .args .charges .now) (l .loop .congestion) (l .loop .i) _ (search needs) (search needs) (w-read (s .pre .1 .0 .each (l .loop .i)) tt) (v .4),
+      copied (s .args .losses .now) (l .loop .loss) (l .loop .i) _ (search needs) (search needs) (w-read (s .pre .1 .1 .each (l .loop .i)) tt) (v .5),
       tab-store _ (l .loop .net) (l .loop .i) _ (search needs) (net-is n) (v .6),
     )
 
@@ -126,10 +126,10 @@ unfolding netted
 returns c = let l = c .before in
     let a = l .before .args in
     let v = l .loop .inv in (
-      copied-all (a .charged .now) (l .loop .congestion) (l .loop .i) (omega arith) (omega arith) (v .4),
+      copied-all (a .charges .now) (l .loop .congestion) (l .loop .i) (omega arith) (omega arith) (v .4),
       (
-        copied-all (a .lost .now) (l .loop .loss) (l .loop .i) (omega arith) (omega arith) (v .5),
-        tab-done (netAt (a .charged .now) (a .lost .now) (a .credit .now)) (l .loop .net) (l .loop .i) (omega arith) (v .6) ∙ ap (tab (netAt (a .charged .now) (a .lost .now) (a .credit .now))) (v .3),
+        copied-all (a .losses .now) (l .loop .loss) (l .loop .i) (omega arith) (omega arith) (v .5),
+        tab-done (netAt (a .charges .now) (a .losses .now) (a .credit .now)) (l .loop .net) (l .loop .i) (omega arith) (v .6) ∙ ap (tab (netAt (a .charges .now) (a .losses .now) (a .credit .now))) (v .3),
       ),
     )
 

@@ -1,10 +1,10 @@
 -- `hour::settle_whole` meets its contract. Assumes nothing.
-use mathlib.Core.Path.{refl, sym, ap, _∙_}
+use mathlib.Core.Path.{_≡_, refl, sym, ap, _∙_, subst}
 use mathlib.Core.List.{List}
 use Prim.Native.Nat.{ℕ, _≤_}
 use native.Mathlib.Omega.{arith}
 use lib.IntN.{ℤ, pos}
-use lib.ListN.{length, replicate}
+use lib.ListN.{length, take, replicate}
 use lib.Seq.{length-take-le}
 use borrow.Author.Needs.{needs}
 use Rattle.ints.specs.Refusal.{lent}
@@ -12,8 +12,10 @@ use Rattle.ints.proofs.Ranges.{zeros-range}
 use Rattle.ints.proofs.Refusals.{lent-before}
 use Rattle.ints.proofs.Turns.{then-ends, then-follows}
 use Rattle.exercise.proofs.Whole.{small}
+use Rattle.credits.specs.Facts.{Natural}
 use Rattle.totals.specs.Given.{Totals}
-use Rattle.hour.proofs.Paid.{congestion-charges, loss-charges, the-shares, the-refusal, the-credits, net-lists}
+use Rattle.hour.specs.Charges.{shares}
+use Rattle.hour.proofs.Paid.{congestion-charges, loss-charges, the-shares, shares-natural, the-refusal, the-credits, net-lists}
 use Rattle.hour.proofs.Parts.{some-participant}
 use Rattle.hour.proofs.settle_whole.Statement.{statement}
 use Rattle.hour.proofs.settle_whole.Tie as tie
@@ -49,6 +51,9 @@ module _ (l : tie.Else1) where
   abbrev start : tie.Start
   start = given charged-file
 
+  shared : take (count charged-file) (charged-file .charge-file .last .1 .1 .1 .0) ≡ shares (start .args .file .now)
+  shared = the-shares (start .args .file .now) (count charged-file) (start .pre .1 .congestion-each) (shares-room charged-file) (charged-file .charge-file .ensures .1 .1 .1 (l .if1 .left))
+
 slice-aggregate-charge-file : tie.Need-slice-aggregate-charge-file
 slice-aggregate-charge-file c = search needs
 
@@ -69,23 +74,23 @@ returns c = let f = c .before .before .before .before in
 array-borrow-prefix-charged : tie.Need-array-borrow-prefix-charged
 array-borrow-prefix-charged c = charged-room (c .before .before .before .before)
 
-slice-aggregate-pay : tie.Need-slice-aggregate-pay
-slice-aggregate-pay c = let f = c .before .before .before .before .before in sym (length-take-le (count f) _ (charged-room f))
+slice-aggregate-bill : tie.Need-slice-aggregate-bill
+slice-aggregate-bill c = let f = c .before .before .before .before .before in sym (length-take-le (count f) _ (charged-room f))
 
 array-borrow-prefix-lost : tie.Need-array-borrow-prefix-lost
 array-borrow-prefix-lost c = lost-room (c .before .before .before .before .before)
 
-slice-aggregate-pay-2 : tie.Need-slice-aggregate-pay-2
-slice-aggregate-pay-2 c = let f = c .before .before .before .before .before .before in sym (length-take-le (count f) _ (lost-room f))
+slice-aggregate-bill-2 : tie.Need-slice-aggregate-bill-2
+slice-aggregate-bill-2 c = let f = c .before .before .before .before .before .before in sym (length-take-le (count f) _ (lost-room f))
 
 array-share-prefix-shares : tie.Need-array-share-prefix-shares
 array-share-prefix-shares c = shares-room (c .before .before .before .before .before .before)
 
-slice-aggregate-pay-3 : tie.Need-slice-aggregate-pay-3
-slice-aggregate-pay-3 c = let f = c .before .before .before .before .before .before .before in sym (length-take-le (count f) _ (shares-room f))
+slice-aggregate-bill-3 : tie.Need-slice-aggregate-bill-3
+slice-aggregate-bill-3 c = let f = c .before .before .before .before .before .before .before in sym (length-take-le (count f) _ (shares-room f))
 
-pay-requires : tie.Need-pay-requires
-pay-requires c κs = let l = c .before .before .before .before .before .before .before in
+bill-requires : tie.Need-bill-requires
+bill-requires c κs = let l = c .before .before .before .before .before .before .before in
     let f = charged-file l in
     let o = start l .pre .1 in
     let n = length-take-le (count f) (f .charge-file .last .1 .1 .1 .0) (shares-room f) in
@@ -98,6 +103,7 @@ pay-requires c κs = let l = c .before .before .before .before .before .before .
       loss-each = o .loss-each ∙ sym (o .congestion-each) ∙ sym n;
       credit-each = o .credit-each ∙ sym (o .congestion-each) ∙ sym n;
       net-each = o .net-each ∙ sym (o .congestion-each) ∙ sym n;
+      natural = subst Natural (sym (shared l)) (shares-natural (start l .args .file .now));
     }
 
 same-length : tie.Need-same-length
@@ -119,18 +125,18 @@ returns-2 c = let p = c .before .before .before .before .before .before in
     let s = start l in
     let file = s .args .file .now in
     let is = s .pre .1 .congestion-each in
-    let e = p .pay .ensures in
+    let e = p .bill .ensures in
     let c1 = congestion-charges file (count f) is (charged-room f) (f .charge-file .ensures .1 .0 (l .if1 .left)) in
     let l1 = loss-charges file (count f) is (lost-room f) (f .charge-file .ensures .1 .1 .0 (l .if1 .left)) in
-    let s1 = the-shares file (count f) is (shares-room f) (f .charge-file .ensures .1 .1 .1 (l .if1 .left)) in (
+    let s1 = shared l in (
       e .0 ∙ the-refusal file _ _ l1 s1 ∙ then-follows _ _ _ (l .if1 .left) (f .charge-file .ensures .0),
       (
-        e .1 .1 .1 .0 ∙ ap (λ (xs : List ℤ). lent (p .pay .result) xs (s .args .congestion .now)) c1,
+        e .1 .0 ∙ ap (λ (xs : List ℤ). lent (p .bill .result) xs (s .args .congestion .now)) c1,
         (
-          e .1 .1 .1 .1 .0 ∙ ap (λ (xs : List ℤ). lent (p .pay .result) xs (s .args .loss .now)) l1,
+          e .1 .1 .0 ∙ ap (λ (xs : List ℤ). lent (p .bill .result) xs (s .args .loss .now)) l1,
           (
-            e .1 .1 .1 .1 .1 .0 ∙ ap (λ (xs : List ℤ). lent (p .pay .result) xs (s .args .credit .now)) (the-credits file _ _ l1 s1),
-            e .1 .1 .1 .1 .1 .1 ∙ ap (λ (xs : List ℤ). lent (p .pay .result) xs (s .args .net .now)) (net-lists file _ _ l1 s1 _ c1),
+            e .1 .1 .1 .0 ∙ ap (λ (xs : List ℤ). lent (p .bill .result) xs (s .args .credit .now)) (the-credits file _ _ l1 s1),
+            e .1 .1 .1 .1 ∙ ap (λ (xs : List ℤ). lent (p .bill .result) xs (s .args .net .now)) (net-lists file _ _ l1 s1 _ c1),
           ),
         ),
       ),
@@ -146,12 +152,12 @@ settle-whole-spec =
     charge-file-requires
     returns
     array-borrow-prefix-charged
-    slice-aggregate-pay
+    slice-aggregate-bill
     array-borrow-prefix-lost
-    slice-aggregate-pay-2
+    slice-aggregate-bill-2
     array-share-prefix-shares
-    slice-aggregate-pay-3
-    pay-requires
+    slice-aggregate-bill-3
+    bill-requires
     same-length
     same-length-2
     same-length-3
