@@ -1,4 +1,4 @@
--- From exact charges to billed cents (document 01, "Charges" and "Surplus and credits"). A list has a number for each participant, in order. Assumes nothing.
+-- From exact charges to billed cents (document 01, "Charges" and "Surplus and credits"). A list has a number for each participant, in order. The same of a file is in crate `hour`, specs/Charges. Assumes nothing.
 use mathlib.Core.Bool.{Bool, _||_}
 use mathlib.Core.List.{List}
 use Prim.Native.Nat.{ℕ}

@@ -10,7 +10,7 @@ use Rattle.ints.specs.Refusal.{unless}
 use Rattle.ints.proofs.Turns.{then-ends, then-later}
 use Rattle.exercise.specs.File.{throughLength}
 use Rattle.hour.specs.Charges.{participants}
-use Rattle.hour.specs.Order.{outputs, hourRefusal, wholeRefusal}
+use Rattle.hour.specs.Order.{outputs, hourRefusal, restRefusal}
 
 -- ---- the output lists
 
@@ -51,6 +51,6 @@ module _ (file : List ℕ) (congestion loss credit net : ℕ) where
         one e = omega arith
 
     -- or goes on
-    pub goes-on : congestion ≡ participants file → loss ≡ participants file → credit ≡ participants file → net ≡ participants file → wholeRefusal file ≡ hourRefusal file congestion loss credit net
+    pub goes-on : congestion ≡ participants file → loss ≡ participants file → credit ≡ participants file → net ≡ participants file → restRefusal file ≡ hourRefusal file congestion loss credit net
     unfolding hourRefusal
     goes-on a b c d = sym (then-later _ _ passes ∙ then-later _ _ (outputs-right (participants file) congestion loss credit net a b c d))

@@ -46,7 +46,7 @@ module _ (file : List ℕ) (n : ℕ) (is : n ≡ participants file) where
   loss-charges {totals} l c = ap rounded (front (lossTotal file) totals n l (c .each)) ∙ rounded-tab (lossTotal file) n ∙ ap (tab (lossOf file)) is
 
   pub the-shares : {totals : List ℤ} → n ≤ length totals → Shared (rows file) totals → take n totals ≡ shares file
-  unfolding shares
+  unfolding shares owed
   the-shares {totals} l c = front (shareOf file) totals n l (c .each) ∙ ap (tab (shareOf file)) is
 
 -- ---- no share is below 0
@@ -63,7 +63,7 @@ only-natural true z h = h
 only-natural false z h = (0, refl)
 
 pub shares-natural : (file : List ℕ) → Natural (shares file)
-unfolding shares owed
+unfolding shares
 shares-natural file = every-tab (λ z. leZ (pos 0) z ≡ true) (shareOf file) (participants file) (λ p _. natural p)
   where
     natural : (p : ℕ) → leZ (pos 0) (shareOf file p) ≡ true

@@ -5,6 +5,7 @@ use Prim.Native.Nat.{ℕ, _*_, _≤_}
 use native.Mathlib.Omega.{arith}
 use lib.IntN.{ℤ, pos}
 use lib.ListN.{length}
+use Rattle.ints.specs.Every.{owed}
 use Rattle.ints.specs.Number.{Within}
 use Rattle.ints.specs.Range.{InRange}
 use Rattle.ints.specs.Sum.{sumTo}
@@ -35,7 +36,7 @@ use Rattle.credits.proofs.Theorems.{fair-credits, credits-sum, nets-sum, nets-w
 use Rattle.hour.specs.Charges.{participants, congestionPrices, lossPrices, congestionTotal, lossTotal, congestionOf, lossOf, surplus, shareOf, shares, congestionCharges, lossCharges, credits, nets}
 use Rattle.totals.specs.Given.{Tables, partIn, pathPartIn, sharesMost, hourMost}
 use Rattle.hour.specs.Given.{bothRefusal}
-use Rattle.hour.specs.Order.{outputs, hourRefusal, wholeRefusal}
+use Rattle.hour.specs.Order.{outputs, hourRefusal, restRefusal}
 use Rattle.totals.specs.Share.{shareKw}
 use Rattle.hour.proofs.Paid.{shares-natural, the-nets}
 use Rattle.hour.proofs.Parts.{some-participant}
@@ -68,7 +69,7 @@ module _ (file : List ℕ) (congestion loss credit net : ℕ) (accepts : hourRef
   unfolding hourRefusal
   passes =
       let a = then-none (throughLength file) _ accepts in
-      let b = then-none (outputs count congestion loss credit net) (wholeRefusal file) (a .1) in
+      let b = then-none (outputs count congestion loss credit net) (restRefusal file) (a .1) in
       let c = then-none (fromPrices file) _ (b .1) in
       (a .0, c .0, c .1)
 
@@ -164,6 +165,7 @@ module _ (file : List ℕ) (congestion loss credit net : ℕ) (accepts : hourRef
 
   -- a participant's share: at most 40,960,000,000 kW
   pub share-within : (p : ℕ) → Within (shareOf file p) sharesMost
+  unfolding owed
   share-within p =
       let w = whole file (passes .0) in
       let h = header file in

@@ -1,9 +1,9 @@
 -- What an hour comes to (document 01, "Charges" and "Surplus and credits"): each participant's charges, share, credit and net, of an exercise file. Assumes nothing.
 use mathlib.Core.List.{List}
 use Prim.Native.Nat.{ℕ}
+use lib.Dec.{eqb}
 use lib.IntN.{ℤ, _+ℤ_, _-ℤ_}
-use Rattle.ints.specs.Every.{owed}
-use Rattle.ints.specs.Sum.{sumTo}
+use Rattle.ints.specs.Sum.{Σℤ, sumTo, only}
 use Rattle.ints.specs.Table.{_at_, tab}
 use Rattle.units.specs.Units.{centsOf}
 use Rattle.split.specs.Split.{parts}
@@ -43,7 +43,7 @@ surplus file = sumTo (lossOf file) (participants file)
 
 -- "It is split over the participants by real-time load and exports (document 002: load plus exports), added up in kW over the rows"
 abbrev pub shareOf : List ℕ → ℕ → ℤ
-shareOf file p = owed (λ r. r .participant) shareKw (rows file) p
+shareOf file p = Σℤ (λ r. only (eqb (r .participant) p) (shareKw r)) (rows file)
 
 unfoldable pub shares : List ℕ → List ℤ
 shares file = tab (shareOf file) (participants file)

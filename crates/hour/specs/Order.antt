@@ -17,14 +17,13 @@ outputs participants congestion loss credit net =
     (unless (eqb net participants) 1
     0)))
 
+-- "2 prices; rows in turn (..); transactions in turn (..); 10; 7"
+abbrev pub restRefusal : List ℕ → ℕ
+restRefusal file = fromPrices file then paidRefusal (surplus file) (shares file)
+
 -- "9 under 5 bytes; 9 header spare; 1 counts; 9 length; 1 output lists not as long as the participants; 2 prices; rows in turn (..); transactions in turn (..); 10; 7"
 unfoldable pub hourRefusal : List ℕ → ℕ → ℕ → ℕ → ℕ → ℕ
 hourRefusal file congestion loss credit net =
     throughLength file
     then outputs (participants file) congestion loss credit net
-    then fromPrices file
-    then paidRefusal (surplus file) (shares file)
-
--- the same from the prices on
-abbrev pub wholeRefusal : List ℕ → ℕ
-wholeRefusal file = fromPrices file then paidRefusal (surplus file) (shares file)
+    then restRefusal file

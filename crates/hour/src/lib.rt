@@ -14,7 +14,7 @@ ghost use Rattle.credits.specs.Paid.{rounded, summed, paidRefusal, netted};
 ghost use Rattle.totals.specs.Given.{Listed, Tables, Totals, rowsMost};
 ghost use Rattle.hour.specs.Given.{RowsAdded, SharesAdded, TransactionsAdded, bothRefusal, BothAdded, congestionCut, lossCut, Parts, partsRefusal, congestionIn, lossIn, Charged, Shared, Bills, Outputs};
 ghost use Rattle.hour.specs.Charges.{participants, congestionPrices, lossPrices, congestionCharges, lossCharges, credits, nets};
-ghost use Rattle.hour.specs.Order.{hourRefusal, wholeRefusal};
+ghost use Rattle.hour.specs.Order.{hourRefusal, restRefusal};
 use exercise::DecodedRow;
 use exercise::DecodedTransaction;
 use exercise::Header;
@@ -377,7 +377,7 @@ fn settle_whole(
 ) -> u32
     requires { ⌜ throughLength (now file) ≡ 0 ⌝ }
     requires { ⌜ Outputs (participants (now file)) (now congestion) (now loss) (now credit) (now net) ⌝ }
-    ensures { λ r. ⌜ r ≡ wholeRefusal (now (file .entry)) ⌝ }
+    ensures { λ r. ⌜ r ≡ restRefusal (now (file .entry)) ⌝ }
     ensures { λ r. ⌜ now (congestion .exit) ≡ lent r (congestionCharges (now (file .entry))) (now (congestion .entry)) ⌝ }
     ensures { λ r. ⌜ now (loss .exit) ≡ lent r (lossCharges (now (file .entry))) (now (loss .entry)) ⌝ }
     ensures { λ r. ⌜ now (credit .exit) ≡ lent r (credits (now (file .entry))) (now (credit .entry)) ⌝ }

@@ -8,7 +8,7 @@ use native.Mathlib.Numerals.{add-one}
 use lib.Dec.{eqb}
 use borrow.Author.Tests.{eq-eqb, ne-eqb, eqb-true, eqb-false}
 use Rattle.ints.specs.Refusal.{pick}
-use Rattle.ints.specs.Turn.{_then_, inTurn, answer}
+use Rattle.ints.specs.Turn.{_then_, inTurn}
 
 -- ---- two orders
 
@@ -63,7 +63,10 @@ module _ (f : ℕ → ℕ) where
       let both = then-none (inTurn f n) (f n) e in
       ⊎-elim (λ q. ap f q ∙ both .1) (λ l. turn-none n (both .0) i l) (eq-or-lt-of-le (le-of-suc-le-suc h))
 
--- ---- answers
+-- ---- answers: a thing that was read, or its refusal, in a type that has a case for either
+
+abbrev pub answer : {X D : Type 0} → (X → D) → (ℕ → D) → ℕ → X → D
+answer accepted refused refusal x = pick (eqb refusal 0) (accepted x) (refused refusal)
 
 module _ {X D : Type 0} (accepted : X → D) (refused : ℕ → D) (refusal : ℕ) (x : X) where
   pub answer-refused : (r : ℕ) → (r ≡ 0 → ⊥) → r ≡ refusal → refused r ≡ answer accepted refused refusal x

@@ -12,7 +12,3 @@ earlier then later = pick (eqb earlier 0) later earlier
 unfoldable pub inTurn : (ℕ → ℕ) → ℕ → ℕ
 inTurn f zero = 0
 inTurn f (suc n) = inTurn f n then f n
-
--- a thing that is read, or its refusal, as a type of two cases has them
-abbrev pub answer : {X D : Type 0} → (X → D) → (ℕ → D) → ℕ → X → D
-answer accepted refused refusal x = pick (eqb refusal 0) (accepted x) (refused refusal)

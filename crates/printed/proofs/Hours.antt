@@ -1,5 +1,5 @@
 -- From the order for an hour and its lists to the statement. Assumes nothing.
-use mathlib.Core.Path.{_≡_, sym, ap, ap₂, _∙_, subst}
+use mathlib.Core.Path.{_≡_, refl, sym, ap, ap₂, _∙_, subst}
 use mathlib.Core.Bool.{Bool}
 use mathlib.Core.List.{List, _++_}
 use Prim.Native.Nat.{ℕ, _≤_}
@@ -10,21 +10,20 @@ use borrow.Author.Tests.{eq-eqb, ne-eqb}
 use Rattle.ints.specs.Range.{InRange}
 use Rattle.ints.specs.Refusal.{pick}
 use Rattle.ints.proofs.Ranges.{range-up}
-use Rattle.ints.proofs.Turns.{then-ends, then-later}
 use Rattle.exercise.specs.File.{throughLength}
 use Rattle.exercise.proofs.Whole.{small}
 use Rattle.credits.specs.Facts.{mostCents, mostNet}
 use Rattle.hour.specs.Charges.{participants, congestionCharges, lossCharges, credits, nets}
 use Rattle.hour.specs.Given.{Outputs}
-use Rattle.hour.specs.Order.{hourRefusal, wholeRefusal}
-use Rattle.hour.proofs.Order.{goes-on}
+use Rattle.hour.specs.Order.{hourRefusal}
+use Rattle.hour.proofs.Order.{ends-early, goes-on}
 use Rattle.hour.proofs.Theorems.{congestions-length, losses-length, credits-length, nets-length, congestion-cents, loss-cents, credit-cents, net-cents}
-use Rattle.printed.specs.Given.{Sheet}
-use Rattle.printed.specs.Statement.{sheet, refused, refusal, statement}
+use Rattle.printed.specs.Given.{Lists}
+use Rattle.printed.specs.Statement.{lines, refused, refusal, statement}
 
 module _ (file : List ℕ) where
   abbrev whole : List ℕ
-  whole = sheet (participants file) (congestionCharges file) (lossCharges file) (credits file) (nets file)
+  whole = lines (participants file) (congestionCharges file) (lossCharges file) (credits file) (nets file)
 
   -- ---- a refused file
 
@@ -33,14 +32,16 @@ module _ (file : List ℕ) where
   refuses r some e = ap refused e ∙ sym (ap (λ (b : Bool). pick b whole (refused (refusal file))) (ne-eqb (refusal file) 0 (λ z. some (e ∙ z))))
 
   pub refused-early : (r : ℕ) → (r ≡ 0 → ⊥) → r ≡ throughLength file → refused r ≡ statement file
-  refused-early r some e = refuses r some (then-ends (throughLength file) (wholeRefusal file) r some e)
+  refused-early r some e = refuses r some (ends-early file _ _ _ _ r some e)
 
   -- ---- one that is whole
 
   module _ (passes : throughLength file ≡ 0) {congestion loss credit net : List ℤ} (long : Outputs (participants file) congestion loss credit net) (r : ℕ) (answer : r ≡ hourRefusal file (length congestion) (length loss) (length credit) (length net)) where
     answer-is : r ≡ refusal file
     answer-is =
-        answer ∙ sym (goes-on file _ _ _ _ passes (long .congestion-each) (long .loss-each) (long .credit-each) (long .net-each)) ∙ sym (then-later (throughLength file) (wholeRefusal file) passes)
+        answer
+        ∙ sym (goes-on file _ _ _ _ passes (long .congestion-each) (long .loss-each) (long .credit-each) (long .net-each))
+        ∙ goes-on file _ _ _ _ passes refl refl refl refl
 
     pub refused-late : (r ≡ 0 → ⊥) → refused r ≡ statement file
     refused-late some = refuses r some answer-is
@@ -54,8 +55,8 @@ module _ (file : List ℕ) where
         count : length a ≡ participants file
         count = ap length e ∙ congestions-length file _ _ _ _ accepts
 
-        pub sheet-of : {page : ℕ} → 6825 ≤ page → Sheet page a b c d
-        sheet-of room = record {
+        pub lists-of : {page : ℕ} → 6825 ≤ page → Lists page a b c d
+        lists-of room = record {
           few = omega (arith, count, small file .participants);
           loss-each = ap length f ∙ losses-length file _ _ _ _ accepts ∙ sym count;
           credit-each = ap length g ∙ credits-length file _ _ _ _ accepts ∙ sym count;
@@ -67,12 +68,12 @@ module _ (file : List ℕ) where
           room = room;
         }
 
-        pub sheet-is : sheet (length a) a b c d ≡ statement file
+        pub lines-are : lines (length a) a b c d ≡ statement file
         unfolding statement
-        sheet-is =
-            ap (λ (n : ℕ). sheet n a b c d) count
-            ∙ ap₂ (λ (x y : List ℤ). sheet (participants file) x y c d) e f
-            ∙ ap₂ (sheet (participants file) (congestionCharges file) (lossCharges file)) g h
+        lines-are =
+            ap (λ (n : ℕ). lines n a b c d) count
+            ∙ ap₂ (λ (x y : List ℤ). lines (participants file) x y c d) e f
+            ∙ ap₂ (lines (participants file) (congestionCharges file) (lossCharges file)) g h
             ∙ sym (ap (λ (b : Bool). pick b whole (refused (refusal file))) (eq-eqb (refusal file) 0 (sym answer-is ∙ none)))
 
 -- the page holds the statement

@@ -8,7 +8,7 @@ use Rattle.ints.specs.Range.{InRange}
 use Rattle.credits.specs.Facts.{mostNet}
 
 -- four lists of an hour, a number for each of up to 64 participants, and a page of so many bytes, with room for 65 lines of 105
-pub record Sheet (page : ℕ) (congestion loss credit net : List ℤ) : Type 0 where
+pub record Lists (page : ℕ) (congestion loss credit net : List ℤ) : Type 0 where
   pub few : length congestion ≤ 64
   pub loss-each : length loss ≡ length congestion
   pub credit-each : length credit ≡ length congestion

@@ -5,13 +5,11 @@ use lib.Dec.{eqb}
 use lib.IntN.{ℤ, pos}
 use Rattle.ints.specs.Refusal.{pick}
 use Rattle.ints.specs.Table.{_at_}
-use Rattle.ints.specs.Turn.{_then_}
 use Rattle.text.specs.Ascii.{ascii}
 use Rattle.text.specs.Decimal.{decimal}
-use Rattle.exercise.specs.File.{throughLength}
 use Rattle.credits.specs.Paid.{summed}
 use Rattle.hour.specs.Charges.{participants, congestionCharges, lossCharges, credits, nets}
-use Rattle.hour.specs.Order.{wholeRefusal}
+use Rattle.hour.specs.Order.{hourRefusal}
 
 -- f 0, .., f (n - 1), one after the other
 unfoldable pub joined : (ℕ → List ℕ) → ℕ → List ℕ
@@ -33,19 +31,20 @@ line congestion loss credit net p = decimal (pos p) ++ fields (congestion at p) 
 abbrev pub lastLine : List ℤ → List ℤ → List ℤ → List ℤ → List ℕ
 lastLine congestion loss credit net = ascii "total" ++ fields (summed congestion) (summed loss) (summed credit) (summed net)
 
-abbrev pub sheet : ℕ → List ℤ → List ℤ → List ℤ → List ℤ → List ℕ
-sheet participants congestion loss credit net = joined (line congestion loss credit net) participants ++ lastLine congestion loss credit net
+-- a line for each participant, and the last one
+abbrev pub lines : ℕ → List ℤ → List ℤ → List ℤ → List ℤ → List ℕ
+lines participants congestion loss credit net = joined (line congestion loss credit net) participants ++ lastLine congestion loss credit net
 
 -- "A refused file prints `refused 9`, with its number, and nothing else."
 abbrev pub refused : ℕ → List ℕ
 refused number = ascii "refused " ++ decimal (pos number) ++ ascii "\n"
 
--- the order for an hour, whose output lists are here as long as the participants
+-- "Order for an hour", where the output lists are as long as the participants
 abbrev pub refusal : List ℕ → ℕ
-refusal file = throughLength file then wholeRefusal file
+refusal file = let n = participants file in hourRefusal file n n n n
 
 unfoldable pub statement : List ℕ → List ℕ
 statement file =
     pick (eqb (refusal file) 0)
-    (sheet (participants file) (congestionCharges file) (lossCharges file) (credits file) (nets file))
+    (lines (participants file) (congestionCharges file) (lossCharges file) (credits file) (nets file))
     (refused (refusal file))

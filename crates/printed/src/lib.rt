@@ -7,7 +7,7 @@ ghost use Rattle.text.specs.Written.{Written};
 ghost use Rattle.exercise.specs.File.{throughLength};
 ghost use Rattle.hour.specs.Charges.{participants};
 ghost use Rattle.hour.specs.Given.{Outputs};
-ghost use Rattle.printed.specs.Given.{Sheet};
+ghost use Rattle.printed.specs.Given.{Lists};
 ghost use Rattle.printed.specs.Statement.{joined, field, fields, line, lastLine, refused};
 ghost use Rattle.printed.specs.Statement.{statement as Statement·statement};
 use units::Cents;
@@ -76,7 +76,7 @@ fn put_lines(
     credit: &[i64],
     net: &[i64],
 ) -> usize
-    requires { ⌜ Sheet (length (now page)) (now congestion) (now loss) (now credit) (now net) ⌝ }
+    requires { ⌜ Lists (length (now page)) (now congestion) (now loss) (now credit) (now net) ⌝ }
     ensures { λ r. ⌜ Written (now (page .entry)) 0 (joined (line (now (congestion .entry)) (now (loss .entry)) (now (credit .entry)) (now (net .entry))) (length (now (congestion .entry)))) (now (page .exit)) r ⌝ }
     ensures { λ r. ⌜ r ≤ 105 * length (now (congestion .entry)) ⌝ }
 {
@@ -98,7 +98,7 @@ fn put_last(
     credit: &[i64],
     net: &[i64],
 ) -> usize
-    requires { ⌜ (at + 90 ≤ length (now page)) × Sheet (length (now page)) (now congestion) (now loss) (now credit) (now net) ⌝ }
+    requires { ⌜ (at + 90 ≤ length (now page)) × Lists (length (now page)) (now congestion) (now loss) (now credit) (now net) ⌝ }
     ensures { λ r. ⌜ Written (now (page .entry)) at (lastLine (now (congestion .entry)) (now (loss .entry)) (now (credit .entry)) (now (net .entry))) (now (page .exit)) r ⌝ }
     ensures { λ r. ⌜ r ≤ at + 90 ⌝ }
 {

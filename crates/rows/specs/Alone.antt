@@ -27,6 +27,7 @@ decodedRow participants locations bytes =
     (givenRefusal participants locations (length bytes) rowSize then rowRefusalAt (natAbs participants) (natAbs locations) bytes 0)
     (rowAt bytes 0)
 
+-- a transaction likewise: document 01 has no order for it, and docs/DECISIONS.md gives it the row's
 abbrev pub decodedTransaction : ℤ → ℤ → List ℕ → DecodedTransaction
 decodedTransaction participants locations bytes =
     transactionAnswer

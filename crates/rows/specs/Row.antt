@@ -5,7 +5,7 @@ use Prim.Native.Nat.{ℕ, _*_}
 use lib.Dec.{ltb, leb, eqb}
 use Rattle.ints.specs.Refusal.{pick, unless}
 use Rattle.ints.specs.Table.{tab}
-use Rattle.ints.specs.Turn.{inTurn, answer}
+use Rattle.ints.specs.Turn.{inTurn}
 use Rattle.rows.specs.Packed.{bytesAt, field}
 use Rattle.rows.specs.declared.DecodedRow.{DecodedRow}
 use Rattle.rows.specs.declared.DecodedRow.the-variants as DecodedRow
@@ -69,7 +69,7 @@ rowRefusalAt participants locations s i = rowRefusal participants locations (row
 
 -- "Decoding one row gives the row or its refusal"
 abbrev pub rowAnswer : ℕ → Row → DecodedRow
-rowAnswer refusal row = answer DecodedRow.Decoded DecodedRow.Refused refusal row
+rowAnswer refusal row = pick (eqb refusal 0) (DecodedRow.Decoded row) (DecodedRow.Refused refusal)
 
 abbrev pub decodedRowAt : ℕ → ℕ → List ℕ → ℕ → DecodedRow
 decodedRowAt participants locations s i = rowAnswer (rowRefusalAt participants locations s i) (rowAt s i)

@@ -1,10 +1,10 @@
 -- A transaction of the exercise file (document 01, "The exercise file", "Charges"): its fields and its order of refusals. Assumes nothing.
 use mathlib.Core.List.{List}
 use Prim.Native.Nat.{ℕ, _*_}
-use lib.Dec.{ltb, leb}
-use Rattle.ints.specs.Refusal.{unless}
+use lib.Dec.{ltb, leb, eqb}
+use Rattle.ints.specs.Refusal.{pick, unless}
 use Rattle.ints.specs.Table.{tab}
-use Rattle.ints.specs.Turn.{inTurn, answer}
+use Rattle.ints.specs.Turn.{inTurn}
 use Rattle.rows.specs.Packed.{bytesAt, field}
 use Rattle.rows.specs.Row.{hasInterval}
 use Rattle.rows.specs.declared.DecodedTransaction.{DecodedTransaction}
@@ -50,7 +50,7 @@ transactionRefusalAt participants locations s i = transactionRefusal participant
 
 -- the transaction or its refusal
 abbrev pub transactionAnswer : ℕ → Transaction → DecodedTransaction
-transactionAnswer refusal transaction = answer DecodedTransaction.Decoded DecodedTransaction.Refused refusal transaction
+transactionAnswer refusal transaction = pick (eqb refusal 0) (DecodedTransaction.Decoded transaction) (DecodedTransaction.Refused refusal)
 
 abbrev pub decodedTransactionAt : ℕ → ℕ → List ℕ → ℕ → DecodedTransaction
 decodedTransactionAt participants locations s i = transactionAnswer (transactionRefusalAt participants locations s i) (transactionAt s i)

@@ -2,7 +2,7 @@
 use mathlib.Core.Path.{_≡_, refl, sym, ap, ap₂, _∙_, subst}
 use mathlib.Core.Bool.{Bool, true, false}
 use mathlib.Core.List.{List, [], _∷_, _++_}
-use Prim.Native.Nat.{ℕ, zero, suc, _+_, _/_, _%_, _^_, _≤_, _<_}
+use Prim.Native.Nat.{ℕ, zero, suc, _+_, _-_, _*_, _/_, _%_, _^_, _≤_, _<_}
 use native.Mathlib.Decide.{decLt}
 use native.Mathlib.Nat.{zero-add, add-zero, add-suc, suc-add}
 use native.Mathlib.Omega.{arith}
@@ -71,6 +71,28 @@ last-digit n f l = here ∙ ap (λ (l : List ℕ). l ++ (digit (n % 10) ∷ []))
   where
     here : digits n ≡ digitsIn 19 (n / 10) ++ (digit (n % 10) ∷ [])
     here = simp (le-ltb n 10 l)
+
+-- ---- the digits, read from the left, come to the number
+
+abbrev read : ℕ → List ℕ → ℕ
+read sofar [] = sofar
+read sofar (c ∷ cs) = read (10 * sofar + (c - 48)) cs
+
+read-last : (sofar : ℕ) (cs : List ℕ) (c : ℕ) → read sofar (cs ++ (c ∷ [])) ≡ 10 * read sofar cs + (c - 48)
+read-last sofar [] c = refl
+read-last sofar (d ∷ cs) c = read-last (10 * sofar + (d - 48)) cs c
+
+read-in : (most n : ℕ) → n < 10 ^ suc most → read 0 (digitsIn (suc most) n) ≡ n
+unfolding digitsIn
+read-in zero n l = simp (lt-ltb n 10 (omega arith)) (omega arith)
+read-in (suc most) n l = by (decLt n 10) (read-in most (n / 10) (omega arith))
+  where
+    by : Dec (n < 10) → read 0 (digitsIn (suc most) (n / 10)) ≡ n / 10 → read 0 (digitsIn (suc (suc most)) n) ≡ n
+    by (yes s) shorter = simp (lt-ltb n 10 s) (omega arith)
+    by (no s) shorter = simp (le-ltb n 10 (omega arith)) (omega (arith, read-last 0 (digitsIn (suc most) (n / 10)) (digit (n % 10)), shorter))
+
+pub reads-back : (n : ℕ) → n < 2 ^ 64 → read 0 (digits n) ≡ n
+reads-back n l = read-in 19 n (omega arith)
 
 -- ---- lengths
 

@@ -1,5 +1,5 @@
 -- How one unit becomes another (document 01): kW at a price in mills per MWh are charged in twelfths of a millionth of a dollar, and a charge is rounded to cents.
--- Assumes nothing.
+-- These are the leaves of the code; the charges themselves are defined in crate `tariff`, in the tariff's letters. Assumes nothing.
 use Prim.Native.Nat.{ℕ, _+_, _/_}
 use lib.IntN.{ℤ, pos, natAbs, _*ℤ_}
 use Rattle.ints.specs.Number.{below0, signed}

@@ -3,8 +3,6 @@
 ghost use mathlib.Core.Path.{_≡_};
 ghost use Prim.Native.Nat.{_≤_};
 ghost use lib.IntN.{pos, negℤ, _-ℤ_};
-ghost use mir.Syntax.{w64};
-ghost use mir.Val.{SFits};
 ghost use Rattle.ints.specs.Number.{Within};
 ghost use Rattle.units.specs.Units.{chargeOf, wholeHour, centsOf};
 
@@ -38,7 +36,7 @@ pub fn whole_hour(price: Mills) -> Mills
 
 // The weight at a path's sink less that at its source.
 pub fn rise(sink: Mills, source: Mills) -> Mills
-    requires { ⌜ SFits w64 (sink .0 -ℤ source .0) ⌝ }
+    requires { ⌜ Within (sink .0) 120000000 × Within (source .0) 120000000 ⌝ }
     ensures { λ r. ⌜ r .0 ≡ sink .0 -ℤ source .0 ⌝ }
 {
     Mills(sink.0 - source.0)

@@ -14,7 +14,7 @@ use Rattle.ints.proofs.Turns.{then-none}
 use Rattle.exercise.specs.File.{throughLength}
 use Rattle.exercise.proofs.Whole.{small}
 use Rattle.hour.specs.Charges.{participants}
-use Rattle.hour.specs.Order.{outputs, hourRefusal, wholeRefusal}
+use Rattle.hour.specs.Order.{outputs, hourRefusal, restRefusal}
 use Rattle.hour.proofs.Parts.{some-participant}
 use Rattle.wunzelihle.specs.Hour.{settleRefusal, hourly}
 use Rattle.wunzelihle.specs.Load.{listed}
@@ -57,7 +57,7 @@ module _ (file : List ℕ) (congestion loss credit net : ℕ) where
 
   same-refusal : hourRefusal file (hourly congestion) (hourly loss) (hourly credit) (hourly net) ≡ settleRefusal file congestion loss credit net
   unfolding hourRefusal settleRefusal
-  same-refusal = ap (λ (lists : ℕ). throughLength file then lists then wholeRefusal file) same-outputs
+  same-refusal = ap (λ (lists : ℕ). throughLength file then lists then restRefusal file) same-outputs
 
   pub settled-refusal : (a b c d : ℕ) → a ≡ hourly congestion → b ≡ hourly loss → c ≡ hourly credit → d ≡ hourly net → hourRefusal file a b c d ≡ settleRefusal file congestion loss credit net
   settled-refusal a b c d p q r s = ap₂ (λ (x y : ℕ). hourRefusal file x y c d) p q ∙ ap₂ (hourRefusal file (hourly congestion) (hourly loss)) r s ∙ same-refusal
@@ -72,7 +72,7 @@ module _ (file : List ℕ) (congestion loss credit net : ℕ) where
   pub bytes : settleRefusal file congestion loss credit net ≡ 0 → Bytes
   unfolding settleRefusal outputs
   bytes e =
-      let lists = then-none (outputs (8 * count) congestion loss credit net) (wholeRefusal file) (then-none (throughLength file) _ e .1) .0 in
+      let lists = then-none (outputs (8 * count) congestion loss credit net) (restRefusal file) (then-none (throughLength file) _ e .1) .0 in
       let p1 = passed (eqb congestion (8 * count)) 0 _ lists in
       let p2 = passed (eqb loss (8 * count)) 0 _ (p1 .1) in
       let p3 = passed (eqb credit (8 * count)) 0 _ (p2 .1) in

@@ -6,7 +6,7 @@ use Rattle.ints.specs.Refusal.{pick}
 use Rattle.ints.specs.Turn.{_then_}
 use Rattle.exercise.specs.File.{throughLength}
 use Rattle.hour.specs.Charges.{participants}
-use Rattle.hour.specs.Order.{outputs, wholeRefusal}
+use Rattle.hour.specs.Order.{outputs, restRefusal}
 use Rattle.wunzelihle.specs.Load.{listed}
 
 -- "1 output lists not as long as the participants"; "a list's slice that is no multiple of eight gets refusal 1, in the place of a list of the wrong length":
@@ -15,7 +15,7 @@ unfoldable pub settleRefusal : List ℕ → ℕ → ℕ → ℕ → ℕ → ℕ
 settleRefusal file congestion loss credit net =
     throughLength file
     then outputs (8 * participants file) congestion loss credit net
-    then wholeRefusal file
+    then restRefusal file
 
 -- how many numbers of an hour a slice of so many bytes can hold: none where it is no list, or a longer one than any hour's
 abbrev pub hourly : ℕ → ℕ

@@ -7,7 +7,7 @@ use borrow.Author.Needs.{needs}
 use Rattle.ints.proofs.Refusals.{lent-result}
 use Rattle.text.proofs.Laws.{more, told, same-length as as-long}
 use Rattle.hour.specs.Charges.{congestionCharges, lossCharges, credits, nets}
-use Rattle.printed.specs.Given.{Sheet}
+use Rattle.printed.specs.Given.{Lists}
 use Rattle.printed.proofs.Hours as hours
 use Rattle.printed.proofs.put_hour.Statement.{statement}
 use Rattle.printed.proofs.put_hour.Tie as tie
@@ -35,8 +35,8 @@ module _ (l : tie.Else1) where
   net-is : t .settle .last .1 .1 .1 .1 .0 ≡ nets file
   net-is = t .settle .ensures .1 .1 .1 .1 ∙ lent-result (t .settle .result) _ _ (l .if1 .left)
 
-  lists : {page : ℕ} → 6825 ≤ page → Sheet page (t .settle .last .1 .0) (t .settle .last .1 .1 .0) (t .settle .last .1 .1 .1 .0) (t .settle .last .1 .1 .1 .1 .0)
-  lists = hours.sheet-of file (s .pre .0 .0) (s .pre .1) (t .settle .result) (t .settle .ensures .0) (l .if1 .left) congestion-is loss-is credit-is net-is
+  lists : {page : ℕ} → 6825 ≤ page → Lists page (t .settle .last .1 .0) (t .settle .last .1 .1 .0) (t .settle .last .1 .1 .1 .0) (t .settle .last .1 .1 .1 .1 .0)
+  lists = hours.lists-of file (s .pre .0 .0) (s .pre .1) (t .settle .result) (t .settle .ensures .0) (l .if1 .left) congestion-is loss-is credit-is net-is
 
 settle-requires : tie.Need-settle-requires
 settle-requires c κs = search needs
@@ -94,7 +94,7 @@ same-length-10 c = search needs
 returns-2 : tie.Need-returns-2
 returns-2 c = let l = c .before .before .before .before .before .before .before .before .before .before .before .before .before .before .before .before in
     let w = c .before .before .before .before .before .before .before .before .before .before .put-lines .ensures in (
-      told (more (w .0) (c .before .before .put-last .ensures .0)) (hours.sheet-is (file l) (s l .pre .0 .0) (s l .pre .1) (t l .settle .result) (t l .settle .ensures .0) (l .if1 .left) (congestion-is l) (loss-is l) (credit-is l) (net-is l)),
+      told (more (w .0) (c .before .before .put-last .ensures .0)) (hours.lines-are (file l) (s l .pre .0 .0) (s l .pre .1) (t l .settle .result) (t l .settle .ensures .0) (l .if1 .left) (congestion-is l) (loss-is l) (credit-is l) (net-is l)),
       omega (arith, c .before .before .put-last .ensures .1, w .1, lists l (s l .pre .0 .1) .few),
     )
 

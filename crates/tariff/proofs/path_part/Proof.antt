@@ -7,7 +7,7 @@ use Rattle.tariff.proofs.path_part.Statement.{statement}
 use Rattle.tariff.proofs.path_part.Tie as tie
 
 rise-requires : tie.Need-rise-requires
-rise-requires c κs = w-fits (w-sub (c .pre .1) (c .pre .2)) tt
+rise-requires c κs = (c .pre .1, c .pre .2)
 
 charge-requires : tie.Need-charge-requires
 charge-requires c κs =
