@@ -12,7 +12,8 @@ use Rattle.rows.specs.Transaction.{transactionRefusal}
 use Rattle.exercise.specs.File.{header, placesOf, places, congestionAhead, congestionReal, lossAhead, lossReal, rows, transactions, headerRefusal, throughLength, fromPrices, fileRefusal, stretch, stretchStart}
 use Rattle.exercise.specs.Price.{priceAt, priceRefusal}
 
-abbrev times : ℕ → List ℕ → List ℕ
+-- so many times the same bytes
+abbrev pub times : ℕ → List ℕ → List ℕ
 times zero s = []
 times (suc n) s = s ++ times n s
 
