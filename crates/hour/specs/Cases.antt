@@ -59,8 +59,8 @@ congested =
     -- congestion: 600 and 700 mills day-ahead, -120 and -60 in every interval
     ++ (0x00 ∷ 0x02 ∷ 0x58 ∷ 0x00 ∷ 0x02 ∷ 0xBC ∷ [])
     ++ times 12 (0xFF ∷ 0xFF ∷ 0x88 ∷ 0xFF ∷ 0xFF ∷ 0xC4 ∷ [])
-    -- loss: 60 day-ahead, 240 in every interval
-    ++ times 2 (0x00 ∷ 0x00 ∷ 0x3C ∷ [])
+    -- loss: 60 and 36 day-ahead, 240 at both in every interval
+    ++ (0x00 ∷ 0x00 ∷ 0x3C ∷ 0x00 ∷ 0x00 ∷ 0x24 ∷ [])
     ++ times 24 (0x00 ∷ 0x00 ∷ 0xF0 ∷ [])
     -- participant 0 at location 0: day-ahead load, 1,000 kW; export in interval 11, 5,500 kW
     ++ (0x00 ∷ 0x00 ∷ 0x00 ∷ 0x00 ∷ 0x1F ∷ 0x40 ∷ 0xAB ∷ 0x00 ∷ 0x00 ∷ 0x00 ∷ 0xAB ∷ 0xE0 ∷ [])
@@ -72,18 +72,18 @@ congested-congestion : congestionCharges congested ≡ pos 67 ∷ negℤ (pos 30
 unfolding congestionCharges tab centsOf charge positions paths aheadAt realAt aheadPath realPath Σℤ sumTo header bytesAt placesOf
 congested-congestion = refl
 
--- 0: 6 day-ahead, -24 taken back, 11 for the export. 1: 20
-congested-loss : lossCharges congested ≡ negℤ (pos 7) ∷ pos 20 ∷ []
+-- 0: 6 day-ahead, -24 as that is taken back, 11 for the export. 1: 20 for the load; on the path 12 day-ahead and nothing paid back
+congested-loss : lossCharges congested ≡ negℤ (pos 7) ∷ pos 32 ∷ []
 unfolding lossCharges tab centsOf charge positions paths aheadAt realAt aheadPath realPath Σℤ sumTo header bytesAt placesOf
 congested-loss = refl
 
--- 13 over 5,500 and 10,000 kW: 4 and 8, with 9,500 and 6,000 over 15,500 left, and a cent for the first
-congested-credit : credits congested ≡ pos 5 ∷ pos 8 ∷ []
+-- 25 over 5,500 and 10,000 kW: 8 and 16, with the remainders 13,500 and 2,000 of 15,500, and the cent left to the first
+congested-credit : credits congested ≡ pos 9 ∷ pos 16 ∷ []
 unfolding credits parts part cutDown remainder unitsLeft before place total sumN surplus shares owed tab centsOf charge positions paths aheadAt realAt aheadPath realPath Σℤ sumTo header bytesAt placesOf
 congested-credit = refl
 
--- 67 - 7 - 5, and -30 + 20 - 8
-congested-net : nets congested ≡ pos 55 ∷ negℤ (pos 18) ∷ []
+-- 67 - 7 - 9, and -30 + 32 - 16
+congested-net : nets congested ≡ pos 51 ∷ negℤ (pos 14) ∷ []
 unfolding nets credits parts part cutDown remainder unitsLeft before place total sumN surplus shares owed tab centsOf charge positions paths aheadAt realAt aheadPath realPath Σℤ sumTo header bytesAt placesOf
 congested-net = refl
 

@@ -25,8 +25,8 @@ document-01 : statement exercise.statement ≡ ascii "0 0 1000 927 73\n1 0 390 4
 unfolding statement joined digitsIn throughLength headerRefusal fromPrices inTurn priceRefusal rowRefusal transactionRefusal paidRefusal all total sumN surplus shares owed tab centsOf charge positions paths aheadAt realAt aheadPath realPath Σℤ sumTo header bytesAt placesOf congestionCharges lossCharges credits nets parts part cutDown remainder unitsLeft before place
 document-01 = refl
 
--- numbers below 0, of both participants: 67 less 30, -7 and 20, 5 and 8, 55 less 18
-congestion : statement congested ≡ ascii "0 67 -7 5 55\n1 -30 20 8 -18\ntotal 37 13 13 37\n"
+-- an hour with congestion, and numbers below 0
+congestion : statement congested ≡ ascii "0 67 -7 9 51\n1 -30 32 16 -14\ntotal 37 25 25 37\n"
 unfolding statement joined digitsIn throughLength headerRefusal fromPrices inTurn priceRefusal rowRefusal transactionRefusal paidRefusal all total sumN surplus shares owed tab centsOf charge positions paths aheadAt realAt aheadPath realPath Σℤ sumTo header bytesAt placesOf congestionCharges lossCharges credits nets parts part cutDown remainder unitsLeft before place
 congestion = refl
 

@@ -123,6 +123,12 @@ path : decodedTransaction (pos 2) (pos 4) (six 0xD8 0x21 0x07 0x31 0x2D 0x00)
 unfolding bytesAt transactionRefusal
 path = refl
 
+-- of participant 63, from location 63 to it
+path-last : decodedTransaction (pos 64) (pos 64) (six 0x07 0xFF 0xFE 0x00 0x00 0x00)
+    ≡ DecodedTransaction.Decoded (record { market = 0; interval = 0; participant = 63; source = 63; sink = 63; kw = record { 0 = 0 } })
+unfolding bytesAt transactionRefusal
+path-last = refl
+
 -- ---- a transaction's refusals, in their order
 
 path-nobody : decodedTransaction (pos 0) (pos 1) [] ≡ DecodedTransaction.Refused 1

@@ -27,6 +27,10 @@ export-ahead = refl
 bid : isShare dayAhead 4 ≡ false
 bid = refl
 
+-- a row of one in real time is refused (4) before it could count
+bid-in-real-time : isShare realTime 4 ≡ false
+bid-in-real-time = refl
+
 -- by so many kW, in whichever interval
 export-kw : shareKw (record { market = 1; kind = 2; interval = 7; participant = 1; location = 0; kw = record { 0 = 100000 } }) ≡ pos 100000
 export-kw = refl
