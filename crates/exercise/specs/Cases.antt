@@ -2,17 +2,18 @@
 use mathlib.Core.Path.{_≡_, refl}
 use mathlib.Core.List.{List, [], _∷_, _++_}
 use Prim.Native.Nat.{ℕ, zero, suc}
-use lib.IntN.{pos, negsuc}
+use lib.IntN.{ℤ, pos, negsuc}
 use lib.ListN.{length}
 use Rattle.ints.specs.Table.{tab}
 use Rattle.ints.specs.Turn.{inTurn}
 use Rattle.rows.specs.Packed.{bytesAt}
 use Rattle.rows.specs.Row.{rowRefusal}
 use Rattle.rows.specs.Transaction.{transactionRefusal}
-use Rattle.exercise.specs.File.{header, placesOf, headerRefusal, throughLength, fromPrices, fileRefusal, congestionReal, lossAhead, rows}
+use Rattle.exercise.specs.File.{header, placesOf, places, congestionAhead, congestionReal, lossAhead, lossReal, rows, transactions, headerRefusal, throughLength, fromPrices, fileRefusal, stretch, stretchStart}
 use Rattle.exercise.specs.Price.{priceAt, priceRefusal}
 
-abbrev times : ℕ → List ℕ → List ℕ
+-- so many times the same bytes
+abbrev pub times : ℕ → List ℕ → List ℕ
 times zero s = []
 times (suc n) s = s ++ times n s
 
@@ -53,6 +54,133 @@ longest : placesOf (record { participants = 64; locations = 64; rows = 2048; tra
 unfolding placesOf
 longest = refl
 
+-- ---- a file of 1 participant and 2 locations, no row and no transaction, whose 52 prices are 1, 2, .. 52 mills
+
+abbrev priceBytes : ℕ → List ℕ
+priceBytes zero = []
+priceBytes (suc n) = priceBytes n ++ (0x00 ∷ 0x00 ∷ suc n ∷ [])
+
+abbrev rising : List ℕ
+rising = (0x00 ∷ 0x10 ∷ 0x00 ∷ 0x00 ∷ 0x00 ∷ []) ++ priceBytes 52
+
+-- n prices from m mills on, each a mill higher
+abbrev run : ℕ → ℕ → List ℤ
+run m zero = []
+run m (suc n) = pos m ∷ run (suc m) n
+
+rising-passes : fileRefusal rising ≡ 0
+unfolding header bytesAt placesOf headerRefusal throughLength fromPrices inTurn priceRefusal
+rising-passes = refl
+
+-- 1 and 2
+first-prices : congestionAhead rising ≡ run 1 2
+unfolding header bytesAt placesOf tab
+first-prices = refl
+
+-- 3 to 26
+second-prices : congestionReal rising ≡ run 3 24
+unfolding header bytesAt placesOf tab
+second-prices = refl
+
+-- 27 and 28
+third-prices : lossAhead rising ≡ run 27 2
+unfolding header bytesAt placesOf tab
+third-prices = refl
+
+-- 29 to 52
+last-prices : lossReal rising ≡ run 29 24
+unfolding header bytesAt placesOf tab
+last-prices = refl
+
+-- ---- files of 2 participants and 1 location, whose prices are 0 but for the last one, with one row and one transaction
+
+abbrev fileOf : List ℕ → List ℕ → List ℕ → List ℕ
+fileOf price row transaction = (0x04 ∷ 0x00 ∷ 0x01 ∷ 0x00 ∷ 0x40 ∷ []) ++ times 75 (0x00 ∷ []) ++ price ++ row ++ transaction
+
+abbrev noPrice : List ℕ
+noPrice = 0x00 ∷ 0x00 ∷ 0x00 ∷ []
+
+-- real-time export in interval 11: participant 1, location 0, 5 kW
+abbrev export : List ℕ
+export = 0xAB ∷ 0x04 ∷ 0x00 ∷ 0x00 ∷ 0x00 ∷ 0x28 ∷ []
+
+-- real time, interval 9, participant 1, from location 0 to it, 7 kW
+abbrev circle : List ℕ
+circle = 0xC8 ∷ 0x20 ∷ 0x00 ∷ 0x00 ∷ 0x00 ∷ 0x07 ∷ []
+
+abbrev sound : List ℕ
+sound = fileOf noPrice export circle
+
+-- 5 and 26 prices of 3, one row of 6, one transaction of 6
+where-they-stand : places sound ≡ record { prices = 5; rows = 83; transactions = 89; end = 95 }
+unfolding header bytesAt placesOf
+where-they-stand = refl
+
+sound-row : rows sound ≡ record { market = 1; kind = 2; interval = 11; participant = 1; location = 0; kw = record { 0 = 5 } } ∷ []
+unfolding header bytesAt placesOf tab
+sound-row = refl
+
+sound-transaction : transactions sound ≡ record { market = 1; interval = 9; participant = 1; source = 0; sink = 0; kw = record { 0 = 7 } } ∷ []
+unfolding header bytesAt placesOf tab
+sound-transaction = refl
+
+-- the row's bytes, where they stand
+sound-stretch : stretch sound ≡ export
+unfolding header bytesAt placesOf headerRefusal throughLength fromPrices inTurn priceRefusal rowRefusal transactionRefusal
+sound-stretch = refl
+
+sound-start : stretchStart sound ≡ 83
+unfolding header bytesAt placesOf headerRefusal throughLength fromPrices inTurn priceRefusal rowRefusal transactionRefusal
+sound-start = refl
+
+-- ---- what is wrong: the price 8,388,607, a spare bit (9), kind 6 (4), a day-ahead transaction in interval 1 (4)
+
+abbrev highPrice : List ℕ
+highPrice = 0x7F ∷ 0xFF ∷ 0xFF ∷ []
+
+abbrev spareSet : List ℕ
+spareSet = 0xAB ∷ 0x04 ∷ 0x00 ∷ 0x00 ∷ 0x00 ∷ 0x29 ∷ []
+
+abbrev noKind : List ℕ
+noKind = 0x60 ∷ 0x04 ∷ 0x00 ∷ 0x00 ∷ 0x00 ∷ 0x28 ∷ []
+
+abbrev tooLate : List ℕ
+tooLate = 0x08 ∷ 0x20 ∷ 0x00 ∷ 0x00 ∷ 0x00 ∷ 0x07 ∷ []
+
+-- the last price, before the row
+price-first : fromPrices (fileOf highPrice noKind tooLate) ≡ 2
+unfolding header bytesAt placesOf fromPrices inTurn priceRefusal rowRefusal transactionRefusal
+price-first = refl
+
+row-next : fromPrices (fileOf noPrice spareSet tooLate) ≡ 9
+unfolding header bytesAt placesOf fromPrices inTurn priceRefusal rowRefusal transactionRefusal
+row-next = refl
+
+transaction-last : fromPrices (fileOf noPrice export tooLate) ≡ 4
+unfolding header bytesAt placesOf fromPrices inTurn priceRefusal rowRefusal transactionRefusal
+transaction-last = refl
+
+-- such a file has no stretch, wrong as it is in its last transaction only
+no-stretch : stretch (fileOf noPrice export tooLate) ≡ []
+unfolding header bytesAt placesOf headerRefusal throughLength fromPrices inTurn priceRefusal rowRefusal transactionRefusal
+no-stretch = refl
+
+no-start : stretchStart (fileOf noPrice export tooLate) ≡ 0
+unfolding header bytesAt placesOf headerRefusal throughLength fromPrices inTurn priceRefusal rowRefusal transactionRefusal
+no-start = refl
+
+-- "rows in turn": two rows, the first with 9 and the second with 4, and the other way about
+abbrev two : List ℕ → List ℕ → List ℕ
+two row next = (0x04 ∷ 0x00 ∷ 0x02 ∷ 0x00 ∷ 0x00 ∷ []) ++ times 78 (0x00 ∷ []) ++ row ++ next
+
+in-turn : fromPrices (two spareSet noKind) ≡ 9
+unfolding header bytesAt placesOf fromPrices inTurn priceRefusal rowRefusal
+in-turn = refl
+
+in-turn-too : fromPrices (two noKind spareSet) ≡ 4
+unfolding header bytesAt placesOf fromPrices inTurn priceRefusal rowRefusal
+in-turn-too = refl
+
 -- ---- the lines of the order to the length, each before the next one
 
 four-bytes : throughLength (0xFF ∷ 0xFF ∷ 0xFF ∷ 0xFF ∷ []) ≡ 9
@@ -75,6 +203,24 @@ no-prices : throughLength (0x00 ∷ 0x00 ∷ 0x00 ∷ 0x00 ∷ 0x00 ∷ []) ≡ 
 unfolding throughLength headerRefusal header bytesAt placesOf
 no-prices = refl
 
+-- 1 participant and 1 location: 5 bytes and 26 prices of 3
+whole : throughLength (times 83 (0x00 ∷ [])) ≡ 0
+unfolding throughLength headerRefusal header bytesAt placesOf
+whole = refl
+
+byte-missing : throughLength (times 82 (0x00 ∷ [])) ≡ 9
+unfolding throughLength headerRefusal header bytesAt placesOf
+byte-missing = refl
+
+byte-more : throughLength (times 84 (0x00 ∷ [])) ≡ 9
+unfolding throughLength headerRefusal header bytesAt placesOf
+byte-more = refl
+
+-- as many rows and transactions as may be
+most : headerRefusal (record { participants = 64; locations = 64; rows = 2048; transactions = 256; spare = 0 }) 18821 ≡ 0
+unfolding headerRefusal placesOf
+most = refl
+
 -- ---- prices: the least in range, and one below it
 
 least : priceAt (0xB3 ∷ 0xB4 ∷ 0xC0 ∷ []) 0 ≡ negsuc 4999999
@@ -84,3 +230,16 @@ least = refl
 below : priceRefusal (priceAt (0xB3 ∷ 0xB4 ∷ 0xBF ∷ []) 0) ≡ 2
 unfolding bytesAt priceRefusal
 below = refl
+
+least-passes : priceRefusal (priceAt (0xB3 ∷ 0xB4 ∷ 0xC0 ∷ []) 0) ≡ 0
+unfolding bytesAt priceRefusal
+least-passes = refl
+
+-- the largest, 5,000,000, and one above it
+largest-passes : priceRefusal (priceAt (0x4C ∷ 0x4B ∷ 0x40 ∷ []) 0) ≡ 0
+unfolding bytesAt priceRefusal
+largest-passes = refl
+
+above : priceRefusal (priceAt (0x4C ∷ 0x4B ∷ 0x41 ∷ []) 0) ≡ 2
+unfolding bytesAt priceRefusal
+above = refl

@@ -33,10 +33,32 @@ export : decodedRow (pos 2) (pos 2) (six 0xA0 0x04 0x10 0x0C 0x35 0x00)
 unfolding bytesAt rowRefusal
 export = refl
 
+-- ---- the last that there is: day-ahead increment offer of participant 63 at location 63, and real time interval 11
+
+last : decodedRow (pos 64) (pos 64) (six 0x50 0xFF 0xF0 0x00 0x00 0x00)
+    ≡ Decoded (record { market = 0; kind = 5; interval = 0; participant = 63; location = 63; kw = record { 0 = 0 } })
+unfolding bytesAt rowRefusal
+last = refl
+
+-- import, 20,000,000 kW
+last-interval : decodedRow (pos 1) (pos 1) (six 0xBB 0x00 0x09 0x89 0x68 0x00)
+    ≡ Decoded (record { market = 1; kind = 3; interval = 11; participant = 0; location = 0; kw = record { 0 = 20000000 } })
+unfolding bytesAt rowRefusal
+last-interval = refl
+
 -- ---- refusals, in their order
 
 no-participants : decodedRow (negsuc 0) (pos 65) [] ≡ Refused 1
 no-participants = refl
+
+nobody : decodedRow (pos 0) (pos 1) (six 0x00 0x00 0x00 0x00 0x00 0x00) ≡ Refused 1
+nobody = refl
+
+many-participants : decodedRow (pos 65) (pos 1) (six 0x00 0x00 0x00 0x00 0x00 0x00) ≡ Refused 1
+many-participants = refl
+
+nowhere : decodedRow (pos 1) (pos 0) (six 0x00 0x00 0x00 0x00 0x00 0x00) ≡ Refused 1
+nowhere = refl
 
 many-locations : decodedRow (pos 64) (pos 65) [] ≡ Refused 1
 many-locations = refl
@@ -44,10 +66,31 @@ many-locations = refl
 five-bytes : decodedRow (pos 1) (pos 1) (0xF0 ∷ 0xFF ∷ 0xFF ∷ 0xFF ∷ 0xFF ∷ []) ≡ Refused 9
 five-bytes = refl
 
+seven-bytes : decodedRow (pos 1) (pos 1) (0x00 ∷ 0x00 ∷ 0x00 ∷ 0x00 ∷ 0x00 ∷ 0x00 ∷ 0x00 ∷ []) ≡ Refused 9
+seven-bytes = refl
+
 -- a decrement bid in real time, with everything else wrong, too
 bid : decodedRow (pos 1) (pos 1) (six 0xC0 0xFF 0xFF 0xFF 0xFF 0xFF) ≡ Refused 4
 unfolding bytesAt rowRefusal
 bid = refl
+
+-- an increment offer in real time, and kinds 6 and 7, with nothing else wrong
+offer : decodedRow (pos 1) (pos 1) (six 0xD0 0x00 0x00 0x00 0x00 0x00) ≡ Refused 4
+unfolding bytesAt rowRefusal
+offer = refl
+
+kind-6 : decodedRow (pos 1) (pos 1) (six 0x60 0x00 0x00 0x00 0x00 0x00) ≡ Refused 4
+unfolding bytesAt rowRefusal
+kind-6 = refl
+
+kind-7 : decodedRow (pos 1) (pos 1) (six 0x70 0x00 0x00 0x00 0x00 0x00) ≡ Refused 4
+unfolding bytesAt rowRefusal
+kind-7 = refl
+
+-- a real-time row at interval 12, of participant 1 of 1
+interval-12 : decodedRow (pos 1) (pos 1) (six 0x8C 0x04 0x00 0x00 0x00 0x00) ≡ Refused 4
+unfolding bytesAt rowRefusal
+interval-12 = refl
 
 -- a day-ahead row at interval 3
 late : decodedRow (pos 1) (pos 1) (six 0x03 0x00 0x00 0x00 0x00 0x00) ≡ Refused 4
@@ -58,6 +101,11 @@ late = refl
 stranger : decodedRow (pos 2) (pos 2) (six 0x80 0x08 0x00 0x00 0x00 0x00) ≡ Refused 3
 unfolding bytesAt rowRefusal
 stranger = refl
+
+-- location 1 of 1, with 20,000,001 kW and a spare bit
+off-the-map : decodedRow (pos 1) (pos 1) (six 0x00 0x00 0x19 0x89 0x68 0x09) ≡ Refused 3
+unfolding bytesAt rowRefusal
+off-the-map = refl
 
 -- 20,000,001 kW and a spare bit, and the spare bit alone
 much : decodedRow (pos 1) (pos 1) (six 0x00 0x00 0x09 0x89 0x68 0x09) ≡ Refused 2
@@ -74,3 +122,46 @@ path : decodedTransaction (pos 2) (pos 4) (six 0xD8 0x21 0x07 0x31 0x2D 0x00)
     ≡ DecodedTransaction.Decoded (record { market = 1; interval = 11; participant = 1; source = 2; sink = 3; kw = record { 0 = 20000000 } })
 unfolding bytesAt transactionRefusal
 path = refl
+
+-- of participant 63, from location 63 to it
+path-last : decodedTransaction (pos 64) (pos 64) (six 0x07 0xFF 0xFE 0x00 0x00 0x00)
+    ≡ DecodedTransaction.Decoded (record { market = 0; interval = 0; participant = 63; source = 63; sink = 63; kw = record { 0 = 0 } })
+unfolding bytesAt transactionRefusal
+path-last = refl
+
+-- ---- a transaction's refusals, in their order
+
+path-nobody : decodedTransaction (pos 0) (pos 1) [] ≡ DecodedTransaction.Refused 1
+path-nobody = refl
+
+path-nowhere : decodedTransaction (pos 1) (pos 65) [] ≡ DecodedTransaction.Refused 1
+path-nowhere = refl
+
+path-seven-bytes : decodedTransaction (pos 1) (pos 1) (0x0F ∷ 0xFF ∷ 0xFF ∷ 0xFF ∷ 0xFF ∷ 0xFF ∷ 0xFF ∷ []) ≡ DecodedTransaction.Refused 9
+path-seven-bytes = refl
+
+-- day-ahead at interval 1, and real time at interval 12, with everything else wrong, too
+path-late : decodedTransaction (pos 1) (pos 1) (six 0x0F 0xFF 0xFF 0xFF 0xFF 0xFF) ≡ DecodedTransaction.Refused 4
+unfolding bytesAt transactionRefusal
+path-late = refl
+
+path-interval-12 : decodedTransaction (pos 1) (pos 1) (six 0xE7 0xFF 0xFF 0xFF 0xFF 0xFF) ≡ DecodedTransaction.Refused 4
+unfolding bytesAt transactionRefusal
+path-interval-12 = refl
+
+-- 20,000,001 kW of participant 1 of 1; from location 1 of 1; to location 1 of 1; and with nothing else wrong
+path-stranger : decodedTransaction (pos 1) (pos 1) (six 0x80 0x20 0x01 0x31 0x2D 0x01) ≡ DecodedTransaction.Refused 3
+unfolding bytesAt transactionRefusal
+path-stranger = refl
+
+path-source : decodedTransaction (pos 1) (pos 1) (six 0x80 0x00 0x81 0x31 0x2D 0x01) ≡ DecodedTransaction.Refused 3
+unfolding bytesAt transactionRefusal
+path-source = refl
+
+path-sink : decodedTransaction (pos 1) (pos 1) (six 0x80 0x00 0x03 0x31 0x2D 0x01) ≡ DecodedTransaction.Refused 3
+unfolding bytesAt transactionRefusal
+path-sink = refl
+
+path-much : decodedTransaction (pos 1) (pos 1) (six 0x80 0x00 0x01 0x31 0x2D 0x01) ≡ DecodedTransaction.Refused 2
+unfolding bytesAt transactionRefusal
+path-much = refl

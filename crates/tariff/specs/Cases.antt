@@ -1,7 +1,7 @@
 -- Worked cases, computed by the definitions. Assumes nothing.
 use mathlib.Core.Path.{_≡_, refl}
 use mathlib.Core.List.{List, [], _∷_, _++_}
-use Prim.Native.Nat.{ℕ, _*_}
+use Prim.Native.Nat.{ℕ, _+_, _*_}
 use lib.IntN.{ℤ, pos, negsuc, negℤ}
 use Rattle.ints.specs.Every.{owed}
 use Rattle.ints.specs.Sum.{Σℤ, sumTo}
@@ -33,8 +33,9 @@ each f = f 0 ++ f 1 ++ f 2 ++ f 3 ++ f 4 ++ f 5 ++ f 6 ++ f 7 ++ f 8 ++ f 9 ++ f
 abbrev alike : List ℤ → List ℤ
 alike prices = each (λ k. prices)
 
-abbrev cents : ℕ → ℤ
-cents n = pos (n * 120000)
+-- so many cents, in twelfths
+abbrev ofCents : ℕ → ℤ
+ofCents n = pos (n * 120000)
 
 -- ---- document 002: participant ABC's bills, positions
 
@@ -64,31 +65,31 @@ lossReal = pos 860 ∷ pos 440 ∷ pos 150 ∷ pos 0 ∷ []
 -- prices that are left out count 0, so that the other market's bill stands alone
 
 -- 2,844.20 dollars less 1,866.40
-day-ahead-congestion : charge (priceList 4 congestionAhead []) schedule [] 0 ≡ cents 97780
+day-ahead-congestion : charge (priceList 4 congestionAhead []) schedule [] 0 ≡ ofCents 97780
 unfolding charge positions paths aheadAt realAt aheadPath realPath Σℤ sumTo
 day-ahead-congestion = refl
 
 -- 123.80 less 74.40
-day-ahead-loss : charge (priceList 4 lossAhead []) schedule [] 0 ≡ cents 4940
+day-ahead-loss : charge (priceList 4 lossAhead []) schedule [] 0 ≡ ofCents 4940
 unfolding charge positions paths aheadAt realAt aheadPath realPath Σℤ sumTo
 day-ahead-loss = refl
 
 -- 368.00 less 178.10 is 189.90, where the course prints 190.00; so 189.90 less 649.80, -459.90, where it prints -459.80
-balancing-congestion : charge (priceList 4 [] (alike congestionReal)) both [] 0 ≡ negℤ (cents 45990)
+balancing-congestion : charge (priceList 4 [] (alike congestionReal)) both [] 0 ≡ negℤ (ofCents 45990)
 unfolding charge positions paths aheadAt realAt aheadPath realPath Σℤ sumTo
 balancing-congestion = refl
 
 -- 12.80 less 30.32
-balancing-loss : charge (priceList 4 [] (alike lossReal)) both [] 0 ≡ negℤ (cents 1752)
+balancing-loss : charge (priceList 4 [] (alike lossReal)) both [] 0 ≡ negℤ (ofCents 1752)
 unfolding charge positions paths aheadAt realAt aheadPath realPath Σℤ sumTo
 balancing-loss = refl
 
 -- the hour's charge is the two bills together: 977.80 less 459.90, and 49.40 less 17.52
-whole-congestion : charge (priceList 4 congestionAhead (alike congestionReal)) both [] 0 ≡ cents 51790
+whole-congestion : charge (priceList 4 congestionAhead (alike congestionReal)) both [] 0 ≡ ofCents 51790
 unfolding charge positions paths aheadAt realAt aheadPath realPath Σℤ sumTo
 whole-congestion = refl
 
-whole-loss : charge (priceList 4 lossAhead (alike lossReal)) both [] 0 ≡ cents 3188
+whole-loss : charge (priceList 4 lossAhead (alike lossReal)) both [] 0 ≡ ofCents 3188
 unfolding charge positions paths aheadAt realAt aheadPath realPath Σℤ sumTo
 whole-loss = refl
 
@@ -98,12 +99,12 @@ abbrev purchase : List Transaction
 purchase = transaction 0 0 0 3 0 100000 ∷ each (λ k. transaction 1 k 0 3 0 100000 ∷ [])
 
 -- 1,324 dollars day-ahead; the balancing charge is 0
-purchase-congestion : charge (priceList 4 congestionAhead (alike congestionReal)) [] purchase 0 ≡ cents 132400
+purchase-congestion : charge (priceList 4 congestionAhead (alike congestionReal)) [] purchase 0 ≡ ofCents 132400
 unfolding charge positions paths aheadAt realAt aheadPath realPath Σℤ sumTo
 purchase-congestion = refl
 
 -- 60 dollars
-purchase-loss : charge (priceList 4 lossAhead (alike lossReal)) [] purchase 0 ≡ cents 6000
+purchase-loss : charge (priceList 4 lossAhead (alike lossReal)) [] purchase 0 ≡ ofCents 6000
 unfolding charge positions paths aheadAt realAt aheadPath realPath Σℤ sumTo
 purchase-loss = refl
 
@@ -112,7 +113,7 @@ purchase-loss = refl
 abbrev met : ℕ → List Row
 met k = real k 0 0 200 ∷ real k 2 1 10 ∷ real k 1 0 100 ∷ real k 3 2 120 ∷ []
 
-met-in-full : charge (priceList 4 lossAhead (alike (pos 700 ∷ negsuc 49 ∷ pos 20 ∷ pos 0 ∷ []))) (schedule ++ each met) [] 0 ≡ cents 4940
+met-in-full : charge (priceList 4 lossAhead (alike (pos 700 ∷ negsuc 49 ∷ pos 20 ∷ pos 0 ∷ []))) (schedule ++ each met) [] 0 ≡ ofCents 4940
 unfolding charge positions paths aheadAt realAt aheadPath realPath Σℤ sumTo
 met-in-full = refl
 
@@ -124,16 +125,16 @@ statement = row 1 0 0 0 1 200000 ∷ row 1 1 0 1 0 110000 ∷ row 1 2 0 1 1 1000
 abbrev statementPrices : Prices
 statementPrices = priceList 2 (pos 120 ∷ pos 600 ∷ []) (alike (pos 120 ∷ pos 600 ∷ []))
 
-statement-0 : charge statementPrices statement [] 0 ≡ cents 1000
+statement-0 : charge statementPrices statement [] 0 ≡ ofCents 1000
 unfolding charge positions paths aheadAt realAt aheadPath realPath Σℤ sumTo
 statement-0 = refl
 
-statement-1 : charge statementPrices statement [] 1 ≡ cents 390
+statement-1 : charge statementPrices statement [] 1 ≡ ofCents 390
 unfolding charge positions paths aheadAt realAt aheadPath realPath Σℤ sumTo
 statement-1 = refl
 
 -- the same by the parts
-statement-parts : rowParts statementPrices statement 1 ≡ cents 390
+statement-parts : rowParts statementPrices statement 1 ≡ ofCents 390
 unfolding owed rowPart aheadWeight Σℤ sumTo
 statement-parts = refl
 
@@ -157,6 +158,39 @@ one-twelfth : charge rising (row 1 0 0 0 0 1 ∷ []) [] 0 ≡ pos 1
 unfolding charge positions paths aheadAt realAt aheadPath realPath Σℤ sumTo
 one-twelfth = refl
 
+-- two rows alike, 10 kW each in interval 2, whose price is 3 mills
+rows-alike : charge rising (row 1 0 2 0 0 10 ∷ row 1 0 2 0 0 10 ∷ []) [] 0 ≡ pos 60
+unfolding charge positions paths aheadAt realAt aheadPath realPath Σℤ sumTo
+rows-alike = refl
+
+-- .. and the same two of another participant are nothing to participant 0
+rows-of-another : charge rising (row 1 0 2 1 0 10 ∷ row 1 0 2 1 0 10 ∷ []) [] 0 ≡ pos 0
+unfolding charge positions paths aheadAt realAt aheadPath realPath Σℤ sumTo
+rows-of-another = refl
+
+-- ---- two locations, whose real-time prices in interval k are 100 k and 100 k + 1 mills, and 0 day-ahead
+
+abbrev stretches : Prices
+stretches = priceList 2 (pos 0 ∷ pos 0 ∷ []) (each (λ k. pos (100 * k) ∷ pos (100 * k + 1) ∷ []))
+
+-- 1 kW of load in interval 7 at location 1, and at location 0
+interval-7 : charge stretches (row 1 0 7 0 1 1 ∷ []) [] 0 ≡ pos 701
+unfolding charge positions paths aheadAt realAt aheadPath realPath Σℤ sumTo
+interval-7 = refl
+
+interval-7-at-0 : charge stretches (row 1 0 7 0 0 1 ∷ []) [] 0 ≡ pos 700
+unfolding charge positions paths aheadAt realAt aheadPath realPath Σℤ sumTo
+interval-7-at-0 = refl
+
+-- 1 kW of load day-ahead at location 1 and no real-time row: 100 by 0 + 1 + .. + 11, and 12 by 1, taken back
+every-interval : charge stretches (row 0 0 0 0 1 1 ∷ []) [] 0 ≡ negℤ (pos 6612)
+unfolding charge positions paths aheadAt realAt aheadPath realPath Σℤ sumTo
+every-interval = refl
+
+every-interval-parts : rowParts stretches (row 0 0 0 0 1 1 ∷ []) 0 ≡ negℤ (pos 6612)
+unfolding owed rowPart aheadWeight Σℤ sumTo
+every-interval-parts = refl
+
 -- ---- a path from 0 to 1, 100 kW day-ahead (price 200 higher at the sink), and 150 kW in interval 3 (150 higher): 12 times 100 by 200, and 50 by 150 charged in
 -- interval 3, and 100 by 150 paid in the 11 others
 
@@ -173,3 +207,35 @@ excess-and-shortfall = refl
 path-parts : transactionParts pathPrices path 0 ≡ pos 82500
 unfolding owed transactionPart aheadWeight Σℤ sumTo
 path-parts = refl
+
+-- two transactions alike, 60 kW each in interval 3: 20 by 150 charged there, where each alone would be short, beside 240,000 day-ahead and 165,000 paid
+transactions-alike : charge pathPrices [] (transaction 0 0 0 0 1 100 ∷ transaction 1 3 0 0 1 60 ∷ transaction 1 3 0 0 1 60 ∷ []) 0 ≡ pos 78000
+unfolding charge positions paths aheadAt realAt aheadPath realPath Σℤ sumTo
+transactions-alike = refl
+
+-- the way back is another path: 100 by 150 is paid on the first in all 12 intervals, and 100 by -150 charged for the way back in interval 3
+way-back : charge pathPrices [] (transaction 0 0 0 0 1 100 ∷ transaction 1 3 0 1 0 100 ∷ []) 0 ≡ pos 45000
+unfolding charge positions paths aheadAt realAt aheadPath realPath Σℤ sumTo
+way-back = refl
+
+-- "the participant's own day-ahead kW": participant 1's 150 kW in interval 3 are all excess, and participant 0 is short in all 12
+abbrev apart : List Transaction
+apart = transaction 0 0 0 0 1 100 ∷ transaction 1 3 1 0 1 150 ∷ []
+
+own-0 : charge pathPrices [] apart 0 ≡ pos 60000
+unfolding charge positions paths aheadAt realAt aheadPath realPath Σℤ sumTo
+own-0 = refl
+
+own-1 : charge pathPrices [] apart 1 ≡ pos 22500
+unfolding charge positions paths aheadAt realAt aheadPath realPath Σℤ sumTo
+own-1 = refl
+
+-- "Source and sink may be equal."
+circle : charge pathPrices [] (transaction 0 0 0 1 1 100 ∷ transaction 1 3 0 1 1 150 ∷ []) 0 ≡ pos 0
+unfolding charge positions paths aheadAt realAt aheadPath realPath Σℤ sumTo
+circle = refl
+
+-- "It does nothing else": 10 kW of load in interval 3 at location 1 cost 10 by 250, beside the path's 82,500
+row-beside-path : charge pathPrices (row 1 0 3 0 1 10 ∷ []) path 0 ≡ pos 85000
+unfolding charge positions paths aheadAt realAt aheadPath realPath Σℤ sumTo
+row-beside-path = refl

@@ -12,6 +12,20 @@ below : decimal (negℤ (pos 73)) ≡ ascii "-73"
 unfolding digitsIn
 below = refl
 
+-- the last participant
+two-digits : decimal (pos 63) ≡ ascii "63"
+unfolding digitsIn
+two-digits = refl
+
+-- the last of one digit, and the first of two
+one-digit : decimal (pos 9) ≡ ascii "9"
+unfolding digitsIn
+one-digit = refl
+
+ten : decimal (pos 10) ≡ ascii "10"
+unfolding digitsIn
+ten = refl
+
 -- a zero inside, and at the end
 zeros : decimal (pos 1010) ≡ ascii "1010"
 unfolding digitsIn

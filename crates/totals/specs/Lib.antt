@@ -1,2 +1,3 @@
 pub mod Share
 pub mod Given
+pub mod Cases

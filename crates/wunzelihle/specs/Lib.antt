@@ -1,3 +1,4 @@
 pub mod Split
 pub mod Load
 pub mod Hour
+pub mod Cases

@@ -1,0 +1,157 @@
+-- Slices that the C server may hand over, ragged ones among them, computed by the definitions. Assumes nothing.
+use mathlib.Core.Path.{_≡_, refl}
+use mathlib.Core.List.{List, [], _∷_, _++_}
+use Prim.Native.Nat.{ℕ}
+use lib.IntN.{pos}
+use lib.ListN.{replicate}
+use Rattle.ints.specs.Each.{allTo}
+use Rattle.ints.specs.Every.{owed}
+use Rattle.ints.specs.Sum.{Σℤ, sumTo, sumN}
+use Rattle.ints.specs.Table.{tab, all}
+use Rattle.ints.specs.Turn.{inTurn}
+use Rattle.numbers.specs.Bytes.{lowestFirst, bytesOf, encoded}
+use Rattle.units.specs.Units.{centsOf}
+use Rattle.split.specs.Split.{total, cutDown, remainder, unitsLeft, before, place, part, parts, refusal}
+use Rattle.load.specs.Load.{contractAt}
+use Rattle.load.specs.Order as load
+use Rattle.rows.specs.Packed.{bytesAt}
+use Rattle.rows.specs.Row.{rowRefusal}
+use Rattle.rows.specs.Transaction.{transactionRefusal}
+use Rattle.exercise.specs.File.{header, placesOf, headerRefusal, throughLength, fromPrices}
+use Rattle.exercise.specs.Price.{priceRefusal}
+use Rattle.tariff.specs.Tariff.{aheadAt, realAt, aheadPath, realPath, positions, paths, charge}
+use Rattle.credits.specs.Paid.{paidRefusal}
+use Rattle.hour.specs.Charges.{surplus, shares}
+use Rattle.hour.specs.Order.{outputs}
+use Rattle.wunzelihle.specs.Hour.{settleRefusal, hourly}
+use Rattle.wunzelihle.specs.Load.{loadRefusal}
+use Rattle.wunzelihle.specs.Split.{splitRefusal, splitOutcome}
+
+-- a number below 256 as it crosses
+abbrev small : ℕ → List ℕ
+small n = n ∷ replicate 7 0
+
+-- ---- the split
+
+abbrev threeOnes : List ℕ
+threeOnes = small 1 ++ small 1 ++ small 1
+
+-- P1: the parts stand in the slice
+split-10 : splitOutcome (pos 10) threeOnes (replicate 24 0xFF) ≡ small 4 ++ small 3 ++ small 3
+unfolding splitRefusal refusal parts part total cutDown remainder unitsLeft before place sumN tab all lowestFirst encoded bytesOf
+split-10 = refl
+
+-- "a list's slice that is no multiple of eight gets refusal 1, in the place of a list of the wrong length": before the amount, which is beyond its range
+ragged-shares : splitRefusal (pos 1000000001) (threeOnes ++ (0 ∷ [])) 24 ≡ 1
+unfolding splitRefusal
+ragged-shares = refl
+
+ragged-parts : splitRefusal (pos 1000000001) threeOnes 25 ≡ 1
+unfolding splitRefusal
+ragged-parts = refl
+
+-- a slice for two parts
+short-parts : splitRefusal (pos 1000000001) threeOnes 16 ≡ 1
+unfolding splitRefusal refusal lowestFirst tab
+short-parts = refl
+
+amount-beyond : splitRefusal (pos 1000000001) threeOnes 24 ≡ 2
+unfolding splitRefusal refusal lowestFirst tab
+amount-beyond = refl
+
+-- a share of -1, eight bytes 0xFF; and the slice keeps what it held
+share-below : splitOutcome (pos 10) (small 1 ++ replicate 8 0xFF) (replicate 16 0xAA) ≡ replicate 16 0xAA
+unfolding splitRefusal refusal all lowestFirst tab
+share-below = refl
+
+-- ---- the load: one bus, 5 kW, no meter, generator, area or contract, and 64 tranches of which none is won
+
+abbrev tranches : List ℕ
+tranches = replicate 512 0
+
+load-passes : loadRefusal (pos 0) (pos 0) (small 5) [] [] (pos 0) [] [] tranches 512 ≡ 0
+unfolding loadRefusal load.refusal load.counts load.lengths load.ranges load.identities load.areaTotals load.meters load.cover sumTo sumN all allTo tab total contractAt lowestFirst
+load-passes = refl
+
+-- metered 2 names no choice: 2, before the distributor that is nobody
+no-choice : loadRefusal (pos 2) (pos 64) (small 5) [] [] (pos 0) [] [] tranches 512 ≡ 2
+unfolding loadRefusal load.refusal load.counts load.lengths load.ranges tab all allTo lowestFirst
+no-choice = refl
+
+-- a byte too many in each of the seven slices, before that
+ragged-loads : loadRefusal (pos 2) (pos 64) (small 5 ++ (0 ∷ [])) [] [] (pos 0) [] [] tranches 512 ≡ 1
+unfolding loadRefusal
+ragged-loads = refl
+
+ragged-imports : loadRefusal (pos 2) (pos 64) (small 5) (0 ∷ []) [] (pos 0) [] [] tranches 512 ≡ 1
+unfolding loadRefusal
+ragged-imports = refl
+
+ragged-generation : loadRefusal (pos 2) (pos 64) (small 5) [] (0 ∷ []) (pos 0) [] [] tranches 512 ≡ 1
+unfolding loadRefusal
+ragged-generation = refl
+
+ragged-area-parts : loadRefusal (pos 2) (pos 64) (small 5) [] [] (pos 0) (0 ∷ []) [] tranches 512 ≡ 1
+unfolding loadRefusal
+ragged-area-parts = refl
+
+ragged-contracts : loadRefusal (pos 2) (pos 64) (small 5) [] [] (pos 0) [] (0 ∷ []) tranches 512 ≡ 1
+unfolding loadRefusal
+ragged-contracts = refl
+
+ragged-tranches : loadRefusal (pos 2) (pos 64) (small 5) [] [] (pos 0) [] [] (tranches ++ (0 ∷ [])) 512 ≡ 1
+unfolding loadRefusal
+ragged-tranches = refl
+
+ragged-result : loadRefusal (pos 2) (pos 64) (small 5) [] [] (pos 0) [] [] tranches 513 ≡ 1
+unfolding loadRefusal
+ragged-result = refl
+
+-- ---- the hour: 1 participant, 1 location and nothing else, all prices 0 or the last 8,388,607
+
+abbrev quiet : List ℕ
+quiet = replicate 83 0
+
+abbrev dear : List ℕ
+dear = replicate 80 0 ++ (0x7F ∷ 0xFF ∷ 0xFF ∷ [])
+
+hour-passes : settleRefusal quiet 8 8 8 8 ≡ 0
+unfolding settleRefusal outputs throughLength headerRefusal fromPrices inTurn priceRefusal rowRefusal transactionRefusal paidRefusal all total sumN surplus shares owed tab centsOf charge positions paths aheadAt realAt aheadPath realPath Σℤ sumTo header bytesAt placesOf
+hour-passes = refl
+
+price-beyond : settleRefusal dear 8 8 8 8 ≡ 2
+unfolding settleRefusal outputs throughLength headerRefusal fromPrices inTurn priceRefusal header bytesAt placesOf
+price-beyond = refl
+
+-- ragged slices, and one for two, before the price
+ragged-congestion : settleRefusal dear 9 8 8 8 ≡ 1
+unfolding settleRefusal outputs throughLength headerRefusal header bytesAt placesOf
+ragged-congestion = refl
+
+ragged-loss : settleRefusal dear 8 15 8 8 ≡ 1
+unfolding settleRefusal outputs throughLength headerRefusal header bytesAt placesOf
+ragged-loss = refl
+
+for-two : settleRefusal dear 8 8 16 8 ≡ 1
+unfolding settleRefusal outputs throughLength headerRefusal header bytesAt placesOf
+for-two = refl
+
+-- as many as there are participants, in numbers and not in bytes
+in-numbers : settleRefusal dear 8 8 8 1 ≡ 1
+unfolding settleRefusal outputs throughLength headerRefusal header bytesAt placesOf
+in-numbers = refl
+
+-- .. and after the length
+length-first : settleRefusal (0 ∷ dear) 9 9 9 9 ≡ 9
+unfolding settleRefusal throughLength headerRefusal header bytesAt placesOf
+length-first = refl
+
+-- how many numbers of an hour a slice holds: 64 at most, and none where it is ragged
+room-for-64 : hourly 512 ≡ 64
+room-for-64 = refl
+
+room-for-65 : hourly 520 ≡ 0
+room-for-65 = refl
+
+ragged-room : hourly 9 ≡ 0
+ragged-room = refl
