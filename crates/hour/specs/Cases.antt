@@ -3,7 +3,6 @@ use mathlib.Core.Path.{_≡_, refl}
 use mathlib.Core.List.{List, [], _∷_, _++_}
 use Prim.Native.Nat.{ℕ}
 use lib.IntN.{pos, negℤ}
-use Rattle.ints.specs.Every.{owed}
 use Rattle.ints.specs.Sum.{Σℤ, sumTo, sumN}
 use Rattle.ints.specs.Table.{tab, all}
 use Rattle.ints.specs.Turn.{inTurn}
@@ -23,7 +22,7 @@ use Rattle.hour.specs.Order.{outputs, hourRefusal}
 -- "0 0 1000 927 73", "1 0 390 463 -73"
 
 unrefused : hourRefusal statement 2 2 2 2 ≡ 0
-unfolding hourRefusal outputs throughLength headerRefusal fromPrices inTurn priceRefusal rowRefusal transactionRefusal paidRefusal all total sumN surplus shares owed tab centsOf charge positions paths aheadAt realAt aheadPath realPath Σℤ sumTo header bytesAt placesOf
+unfolding hourRefusal outputs throughLength headerRefusal fromPrices inTurn priceRefusal rowRefusal transactionRefusal paidRefusal all total sumN surplus shares tab centsOf charge positions paths aheadAt realAt aheadPath realPath Σℤ sumTo header bytesAt placesOf
 unrefused = refl
 
 congestion : congestionCharges statement ≡ pos 0 ∷ pos 0 ∷ []
@@ -35,15 +34,15 @@ unfolding lossCharges tab centsOf charge positions paths aheadAt realAt aheadPat
 loss = refl
 
 by-load-and-exports : shares statement ≡ pos 200000 ∷ pos 100000 ∷ []
-unfolding shares owed tab Σℤ header bytesAt placesOf
+unfolding shares tab Σℤ header bytesAt placesOf
 by-load-and-exports = refl
 
 credit : credits statement ≡ pos 927 ∷ pos 463 ∷ []
-unfolding credits parts part cutDown remainder unitsLeft before place total sumN surplus shares owed tab centsOf charge positions paths aheadAt realAt aheadPath realPath Σℤ sumTo header bytesAt placesOf
+unfolding credits parts part cutDown remainder unitsLeft before place total sumN surplus shares tab centsOf charge positions paths aheadAt realAt aheadPath realPath Σℤ sumTo header bytesAt placesOf
 credit = refl
 
 net : nets statement ≡ pos 73 ∷ negℤ (pos 73) ∷ []
-unfolding nets credits parts part cutDown remainder unitsLeft before place total sumN surplus shares owed tab centsOf charge positions paths aheadAt realAt aheadPath realPath Σℤ sumTo header bytesAt placesOf
+unfolding nets credits parts part cutDown remainder unitsLeft before place total sumN surplus shares tab centsOf charge positions paths aheadAt realAt aheadPath realPath Σℤ sumTo header bytesAt placesOf
 net = refl
 
 -- an output list for three
@@ -79,12 +78,12 @@ congested-loss = refl
 
 -- 25 over 5,500 and 10,000 kW: 8 and 16, with the remainders 13,500 and 2,000 of 15,500, and the cent left to the first
 congested-credit : credits congested ≡ pos 9 ∷ pos 16 ∷ []
-unfolding credits parts part cutDown remainder unitsLeft before place total sumN surplus shares owed tab centsOf charge positions paths aheadAt realAt aheadPath realPath Σℤ sumTo header bytesAt placesOf
+unfolding credits parts part cutDown remainder unitsLeft before place total sumN surplus shares tab centsOf charge positions paths aheadAt realAt aheadPath realPath Σℤ sumTo header bytesAt placesOf
 congested-credit = refl
 
 -- 67 - 7 - 9, and -30 + 32 - 16
 congested-net : nets congested ≡ pos 51 ∷ negℤ (pos 14) ∷ []
-unfolding nets credits parts part cutDown remainder unitsLeft before place total sumN surplus shares owed tab centsOf charge positions paths aheadAt realAt aheadPath realPath Σℤ sumTo header bytesAt placesOf
+unfolding nets credits parts part cutDown remainder unitsLeft before place total sumN surplus shares tab centsOf charge positions paths aheadAt realAt aheadPath realPath Σℤ sumTo header bytesAt placesOf
 congested-net = refl
 
 -- ---- hours of 1 participant at 1 location: the first price, the loss price day-ahead and the only row are given
@@ -111,12 +110,12 @@ light = 0x00 ∷ 0x00 ∷ 0x00 ∷ 0x00 ∷ 0x1F ∷ 0x40 ∷ []
 
 -- a surplus of 10,000,000,000 cents, and nobody to share it: 10 before 7
 beyond : hourRefusal (hourOf noPrice highest heaviest) 1 1 1 1 ≡ 10
-unfolding hourRefusal outputs throughLength headerRefusal fromPrices inTurn priceRefusal rowRefusal transactionRefusal paidRefusal all total sumN surplus shares owed tab centsOf charge positions paths aheadAt realAt aheadPath realPath Σℤ sumTo header bytesAt placesOf
+unfolding hourRefusal outputs throughLength headerRefusal fromPrices inTurn priceRefusal rowRefusal transactionRefusal paidRefusal all total sumN surplus shares tab centsOf charge positions paths aheadAt realAt aheadPath realPath Σℤ sumTo header bytesAt placesOf
 beyond = refl
 
 -- a surplus of 500,000 cents, and nobody to share it
 nobody : hourRefusal (hourOf noPrice highest light) 1 1 1 1 ≡ 7
-unfolding hourRefusal outputs throughLength headerRefusal fromPrices inTurn priceRefusal rowRefusal transactionRefusal paidRefusal all total sumN surplus shares owed tab centsOf charge positions paths aheadAt realAt aheadPath realPath Σℤ sumTo header bytesAt placesOf
+unfolding hourRefusal outputs throughLength headerRefusal fromPrices inTurn priceRefusal rowRefusal transactionRefusal paidRefusal all total sumN surplus shares tab centsOf charge positions paths aheadAt realAt aheadPath realPath Σℤ sumTo header bytesAt placesOf
 nobody = refl
 
 -- 2 before them
