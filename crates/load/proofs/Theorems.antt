@@ -13,17 +13,18 @@ use borrow.Author.Tests.{eq-eqb, ne-eqb, le-ltb, eqb-true, eqb-false}
 use Rattle.ints.specs.Each.{allTo}
 use Rattle.ints.specs.Number.{below0}
 use Rattle.ints.specs.Sum.{sumTo, only}
-use Rattle.ints.specs.Table.{_at_}
+use Rattle.ints.specs.Table.{_at_, tab}
 use Rattle.ints.proofs.Bools.{either}
 use Rattle.ints.proofs.Diff.{ind2, ⊖-laws, ⊖-eq}
 use Rattle.ints.proofs.Eachs.{allTo-at}
 use Rattle.ints.proofs.Refusals.{passed}
 use Rattle.ints.proofs.Sums.{sumTo-ext, sumTo-plus, sumTo-swap, sumTo-only}
-use Rattle.ints.proofs.Tables.{getD-tab}
+use Rattle.ints.proofs.Tables.{getD-tab, tab-self, tab-ext}
 use Rattle.ints.proofs.Turns.{then-none}
 use Rattle.split.specs.Fair.{Fair}
 use Rattle.split.specs.Split.{total, parts}
 use Rattle.split.proofs.Demand3.{fair}
+use Rattle.load.specs.Demand3.{FairLoad}
 use Rattle.load.specs.Facts.{Ranged, Splits}
 use Rattle.load.specs.Load.{isMetered, meteredLoad, busLoads, supplier, area, kw, count, partsOf, contractParts, contractAt, contractLoad, contracted, auctioned, Given, buses, busLoad, rest, assigned, assignment}
 use Rattle.load.specs.Order.{tests, meters, cover, refusal}
@@ -50,6 +51,14 @@ only-natural false z e = refl
 
 sum-not-below : {x y : ℤ} {m k : ℕ} → x ≡ pos m → y ≡ pos k → below0 (x +ℤ y) ≡ false
 sum-not-below {m = m} {k = k} e f = ap₂ (λ (x y : ℤ). below0 (x +ℤ y)) e f ∙ le-ltb (m + k) 0 (omega arith)
+
+-- ---- the result is participant by participant: number p * buses + b is what participant p is assigned at bus b
+
+pub assignment-at : (d : Given) (p b : ℕ) → p < 64 → b < buses d → cell (buses d) (assignment d) p b ≡ assigned d p b
+unfolding assignment
+assignment-at d p b u l =
+    getD-tab (λ k. assigned d (k / buses d) (k % buses d)) (pos 0) (64 * buses d) (p * buses d + b) (omega (arith, row-end (buses d) p 64 u))
+    ∙ ap₂ (assigned d) (row-of (buses d) p b l) (column-of (buses d) p b l)
 
 module _ (d : Given) (n : ℕ) (accepts : refusal d n ≡ 0) where
   -- no group of the order refuses anything
@@ -146,10 +155,15 @@ module _ (d : Given) (n : ℕ) (accepts : refusal d n ≡ 0) where
   pub metered-total : isMetered (d .metered) ≡ true → sumTo (busLoad d) (buses d) ≡ meteredLoad (d .imports) (d .generation)
   metered-total on = metered-fair on .adds-up
 
--- ---- the result is participant by participant: number p * buses + b is what participant p is assigned at bus b
+  -- ---- demand 3
 
-pub assignment-at : (d : Given) (p b : ℕ) → p < 64 → b < buses d → cell (buses d) (assignment d) p b ≡ assigned d p b
-unfolding assignment
-assignment-at d p b u l =
-    getD-tab (λ k. assigned d (k / buses d) (k % buses d)) (pos 0) (64 * buses d) (p * buses d + b) (omega (arith, row-end (buses d) p 64 u))
-    ∙ ap₂ (assigned d) (row-of (buses d) p b l) (column-of (buses d) p b l)
+  pub demand-3 : FairLoad d
+  demand-3 = record {
+    metered = metered-fair;
+    contract = contract-fair;
+    auction = λ b l some. let f = rest-fair b l some in
+        subst (Fair (rest d b) (d .tranches))
+        (tab-self (pos 0) (parts (rest d b) (d .tranches)) ∙ ap (tab (λ p. parts (rest d b) (d .tranches) at p)) (f .0 .one-each ∙ facts .auction-given .all) ∙ tab-ext _ _ 64 (λ p _. sym (f .1 p)))
+        (f .0);
+    handed-out = λ b l. sumTo-ext _ _ 64 (λ p u. assignment-at d p b u l) ∙ handed-out b l;
+  }

@@ -1,5 +1,6 @@
 pub mod Load
 pub mod Order
 pub mod Table
+pub mod Demand3
 pub mod Facts
 pub mod Cases
