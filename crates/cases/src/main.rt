@@ -75,7 +75,7 @@ fn run_load(
     print(b" metered");
     print_list(imports);
     print_list(generation);
-    let refused = load::assign(
+    let refused = assigning::assign(
         1,
         0,
         loads,

@@ -6,4 +6,3 @@ pub mod Parts
 pub mod Paid
 pub mod Order
 pub mod Theorems
-pub mod Unique

@@ -138,7 +138,7 @@ fn put_hour(
     ensures { λ r. ⌜ Written (now (page .entry)) 0 (Statement·statement (now (file .entry))) (now (page .exit)) r ⌝ }
     ensures { λ r. ⌜ r ≤ 6825 ⌝ }
 {
-    let answer = hour::settle(file, congestion, loss, credit, net);
+    let answer = settling::settle(file, congestion, loss, credit, net);
     if answer != 0 {
         return put_refused(page, answer);
     }

@@ -146,7 +146,7 @@ fn assign_listed(
     let c = contracts.len() / 8;
     let t = tranches.len() / 8;
     let m = out.len() / 8;
-    let refusal = load::assign(
+    let refusal = assigning::assign(
         metered,
         distributor,
         &at_buses[..b],
@@ -194,7 +194,7 @@ fn settle_into(
     ensures { λ r. ⌜ now (credit .exit) ≡ lent r (encoded (credits (now (file .entry)))) (now (credit .entry)) ⌝ }
     ensures { λ r. ⌜ now (net .exit) ≡ lent r (encoded (nets (now (file .entry)))) (now (net .entry)) ⌝ }
 {
-    let answer = hour::settle(file, congestion_cents, loss_cents, credit_cents, net_cents);
+    let answer = settling::settle(file, congestion_cents, loss_cents, credit_cents, net_cents);
     if answer != 0 {
         return answer;
     }
