@@ -72,10 +72,12 @@ static enum status run(char **word)
         return with_file(option, word + 1, settle_in_dollars);
     if (strcmp(option, "--load") == 0)
         return with_file(option, word + 1, assign_load);
-    if (strcmp(option, "--help") == 0) {
+    if (strcmp(option, "--help") == 0 && !word[1]) {
         print_usage(stdout);
         return STATUS_DONE;
     }
+    if (strcmp(option, "--help") == 0)
+        return misused(word[1], "one word too many");
     if (option[0] == '-' && option[1] != '\0')
         return misused(option, "no such option; put ./ before a file's name that begins with -");
     return with_file(option, word, settle_in_cents);

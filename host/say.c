@@ -16,7 +16,7 @@ void say_word(const char *word)
 enum status complain(const char *word, const char *why)
 {
     fputs("host: ", stderr);
-    say_word(word);
+    say_word(*word ? word : "an empty word");
     fprintf(stderr, ": %s\n", why);
     return STATUS_FAULT;
 }

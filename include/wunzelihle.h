@@ -2,7 +2,8 @@
  * wunzelihle.h: the C interface of the settlement engine.
  *
  * This file is the manual of the boundary. The rules themselves are those of
- * document 01; where the two differ, document 01 decides.
+ * document 01, the project's paper on what is built; where the two differ,
+ * document 01 decides.
  *
  * NUMBERS AND LISTS
  *
@@ -187,7 +188,7 @@ uint32_t wz_assign_load(int64_t metered, int64_t distributor,
  *   net         written: each participant's two charges less its credit
  *
  * The four lists are in cents and have a number for each participant of the
- * file, 1 to 64, so each length is 8 to 512. A charge below 0 is paid out, and
+ * file, 1 to 64 (the file's first six bits, and 1), so each length is 8 to 512. A charge below 0 is paid out, and
  * a credit below 0 is taken.
  *
  * The file is packed, the most significant bit first, without gaps:
