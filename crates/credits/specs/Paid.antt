@@ -21,11 +21,12 @@ rounded exact = tab (λ p. centsOf (exact at p)) (length exact)
 abbrev pub summed : List ℤ → ℤ
 summed cents = sumTo (λ p. cents at p) (length cents)
 
--- "Order for an hour: .. 10; 7", of the surplus and each participant's share.
--- 10: "surplus beyond 1,000,000,000 cents in size, or a participant's share above 4,000,000,000"; 7: "shares total 0 and the amount isn't 0"
+-- a share that isn't above the most that there may be
 abbrev pub notAbove : ℕ → ℤ → Bool
 notAbove most share = leZ share (pos most)
 
+-- "Order for an hour: .. 10; 7", of the surplus and each participant's share.
+-- 10: "surplus beyond 1,000,000,000 cents in size, or a participant's share above 4,000,000,000"; 7: "shares total 0 and the amount isn't 0"
 unfoldable pub paidRefusal : ℤ → List ℤ → ℕ
 paidRefusal surplus shares =
     unless (between (negℤ (pos 1000000000)) (pos 1000000000) surplus) 10
