@@ -1,12 +1,14 @@
 -- Rows, then transactions, added to totals that were 0. Assumes nothing.
-use mathlib.Core.Path.{_≡_, ap, _∙_}
+use mathlib.Core.Path.{_≡_, sym, ap, _∙_}
 use mathlib.Core.List.{List}
 use Prim.Native.Nat.{ℕ}
 use native.Mathlib.Omega.{arith}
 use lib.IntN.{ℤ, pos, negsuc, _+ℤ_, +ℤ-idl}
+use lib.ListN.{length}
 use Rattle.ints.specs.Every.{owed, Added}
 use Rattle.ints.specs.Number.{Within}
-use Rattle.ints.specs.Table.{_at_}
+use Rattle.ints.specs.Table.{_at_, tab}
+use Rattle.ints.proofs.Tables.{tab-ext, tab-self}
 use Rattle.rows.specs.Row.{rowsIn}
 use Rattle.rows.specs.Transaction.{transactionsIn}
 use Rattle.exercise.specs.declared.Header.{Header}
@@ -16,6 +18,10 @@ use Rattle.hour.specs.Given.{RowsAdded, SharesAdded, TransactionsAdded, 
 none : (z : ℤ) → Within z 0 → z ≡ pos 0
 none (pos n) w = ap pos (omega (arith, w .within))
 none (negsuc n) w = absurd (omega (arith, w .within))
+
+-- cleared, totals that were 0 are as they were
+pub as-they-were : {before after : List ℤ} {n : ℕ} → Totals before 0 → n ≡ length before → after ≡ tab (λ _. pos 0) n → after ≡ before
+as-they-were {before} t l e = e ∙ ap (tab (λ _. pos 0)) l ∙ tab-ext _ _ (length before) (λ p _. sym (none (before at p) (t .range .each p))) ∙ sym (tab-self (pos 0) before)
 
 -- what is added to nothing
 from-nothing : {A : Type 0} {owner : A → ℕ} {f : A → ℤ} {xs : List A} {before after : List ℤ} → Totals before 0 → Added owner f xs before after → (p : ℕ) → after at p ≡ owed owner f xs p

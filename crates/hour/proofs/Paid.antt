@@ -2,7 +2,7 @@
 use mathlib.Core.Path.{_≡_, refl, sym, ap, ap₂, _∙_}
 use mathlib.Core.Bool.{Bool, true, false}
 use mathlib.Core.List.{List, [], _∷_}
-use Prim.Native.Nat.{ℕ, _+_, _≤_, _<_}
+use Prim.Native.Nat.{ℕ, _+_, _≤_}
 use native.Mathlib.Omega.{arith}
 use lib.Dec.{eqb}
 use lib.IntN.{ℤ, pos, _+ℤ_, _-ℤ_}
@@ -25,29 +25,49 @@ use Rattle.totals.specs.Share.{isShare, shareKw}
 use Rattle.hour.specs.Charges.{participants, congestionPrices, lossPrices, congestionTotal, lossTotal, congestionOf, lossOf, surplus, shareOf, shares, congestionCharges, lossCharges, credits, nets}
 use Rattle.hour.specs.Given.{Charged, Shared}
 
--- the front of a list by its numbers
-front : (f : ℕ → ℤ) (xs : List ℤ) (n : ℕ) → n ≤ length xs → ((p : ℕ) → xs at p ≡ f p) → take n xs ≡ tab f n
-front f xs n l h =
-    ext-getD (pos 0) (take n xs) (tab f n) (length-take-le n xs l ∙ sym (length-tab f n))
-    (λ p m. let k : p < n = omega (arith, length-take-le n xs l) in getD-take n xs p (pos 0) k ∙ h p ∙ sym (getD-tab f (pos 0) n p k))
+-- ---- lists of 64 totals
+
+pub by-numbers : (f : ℕ → ℤ) {xs : List ℤ} → length xs ≡ 64 → ((p : ℕ) → xs at p ≡ f p) → xs ≡ tab f 64
+by-numbers f {xs} l h =
+    ext-getD (pos 0) xs (tab f 64) (l ∙ sym (length-tab f 64))
+    (λ p m. h p ∙ sym (getD-tab f (pos 0) 64 p (omega (arith, l))))
+
+front : (f : ℕ → ℤ) (n : ℕ) → n ≤ 64 → take n (tab f 64) ≡ tab f n
+front f n l =
+    let k = length-take-le n (tab f 64) (omega (arith, length-tab f 64)) in
+    ext-getD (pos 0) (take n (tab f 64)) (tab f n) (k ∙ sym (length-tab f n))
+    (λ p m. getD-take n (tab f 64) p (pos 0) (omega (arith, k)) ∙ getD-tab f (pos 0) 64 p (omega (arith, k)) ∙ sym (getD-tab f (pos 0) n p (omega (arith, k))))
 
 -- totals, rounded
 rounded-tab : (f : ℕ → ℤ) (n : ℕ) → rounded (tab f n) ≡ tab (λ p. centsOf (f p)) n
 unfolding rounded
 rounded-tab f n = ap (tab (λ p. centsOf (tab f n at p))) (length-tab f n) ∙ tab-ext _ _ n (λ p l. ap centsOf (getD-tab f (pos 0) n p l))
 
-module _ (file : List ℕ) (n : ℕ) (is : n ≡ participants file) where
-  pub congestion-charges : {totals : List ℤ} → n ≤ length totals → Charged (congestionPrices file) (rows file) (transactions file) totals → rounded (take n totals) ≡ congestionCharges file
+-- the totals and shares of a file are lists by the tariff
+module _ (file : List ℕ) {totals : List ℤ} (l : length totals ≡ 64) where
+  pub congestion-totals : Charged (congestionPrices file) (rows file) (transactions file) totals → totals ≡ tab (congestionTotal file) 64
+  congestion-totals c = by-numbers (congestionTotal file) l (c .each)
+
+  pub loss-totals : Charged (lossPrices file) (rows file) (transactions file) totals → totals ≡ tab (lossTotal file) 64
+  loss-totals c = by-numbers (lossTotal file) l (c .each)
+
+  pub share-totals : Shared (rows file) totals → totals ≡ tab (shareOf file) 64
+  unfolding owed
+  share-totals c = by-numbers (shareOf file) l (c .each)
+
+-- .. and their fronts are what is billed
+module _ (file : List ℕ) (n : ℕ) (is : n ≡ participants file) (few : n ≤ 64) where
+  pub congestion-charges : {totals : List ℤ} → totals ≡ tab (congestionTotal file) 64 → rounded (take n totals) ≡ congestionCharges file
   unfolding congestionCharges
-  congestion-charges {totals} l c = ap rounded (front (congestionTotal file) totals n l (c .each)) ∙ rounded-tab (congestionTotal file) n ∙ ap (tab (congestionOf file)) is
+  congestion-charges e = ap (λ (xs : List ℤ). rounded (take n xs)) e ∙ ap rounded (front (congestionTotal file) n few) ∙ rounded-tab (congestionTotal file) n ∙ ap (tab (congestionOf file)) is
 
-  pub loss-charges : {totals : List ℤ} → n ≤ length totals → Charged (lossPrices file) (rows file) (transactions file) totals → rounded (take n totals) ≡ lossCharges file
+  pub loss-charges : {totals : List ℤ} → totals ≡ tab (lossTotal file) 64 → rounded (take n totals) ≡ lossCharges file
   unfolding lossCharges
-  loss-charges {totals} l c = ap rounded (front (lossTotal file) totals n l (c .each)) ∙ rounded-tab (lossTotal file) n ∙ ap (tab (lossOf file)) is
+  loss-charges e = ap (λ (xs : List ℤ). rounded (take n xs)) e ∙ ap rounded (front (lossTotal file) n few) ∙ rounded-tab (lossTotal file) n ∙ ap (tab (lossOf file)) is
 
-  pub the-shares : {totals : List ℤ} → n ≤ length totals → Shared (rows file) totals → take n totals ≡ shares file
-  unfolding shares owed
-  the-shares {totals} l c = front (shareOf file) totals n l (c .each) ∙ ap (tab (shareOf file)) is
+  pub the-shares : {totals : List ℤ} → totals ≡ tab (shareOf file) 64 → take n totals ≡ shares file
+  unfolding shares
+  the-shares e = ap (take n) e ∙ front (shareOf file) n few ∙ ap (tab (shareOf file)) is
 
 -- ---- no share is below 0
 

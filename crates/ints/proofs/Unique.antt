@@ -6,6 +6,7 @@ use Prim.Native.Nat.{ℕ}
 use lib.IntN.{ℤ}
 use contract.Lifetimes.{Lfts}
 use Rattle.ints.proofs.all_between.Reads as all-between
+use Rattle.ints.proofs.clear.Reads as clear
 use Rattle.ints.proofs.is_between.Reads as is-between
 use Rattle.ints.proofs.negative.Reads as negative
 use Rattle.ints.proofs.size.Reads as size
@@ -33,3 +34,6 @@ is-between-unique a r s e f p q = unique p q
 
 pub all-between-unique : (κs : Lfts 1) (a : _) (r s : Bool) (e f : _) → all-between.Post κs a r e → all-between.Post κs a s f → r ≡ s
 all-between-unique κs a r s e f p q = unique p q
+
+pub clear-unique : (κs : Lfts 1) (a : _) (r s : _) (e f : _) → clear.Post κs a r e → clear.Post κs a s f → e .0 .now ≡ f .0 .now
+clear-unique κs a r s e f p q = unique p q

@@ -1,10 +1,11 @@
-// A number by its size and its sign; numbers in a range.
+// A number by its size and its sign; numbers in a range; a list of zeros.
 ghost use mathlib.Core.Path.{_≡_};
 ghost use mathlib.Core.Bool.{_&&_};
 ghost use Prim.Native.Nat.{_<_};
-ghost use lib.IntN.{natAbs};
+ghost use lib.IntN.{pos, natAbs};
+ghost use lib.ListN.{length};
 ghost use Rattle.ints.specs.Number.{below0, signed, between};
-ghost use Rattle.ints.specs.Table.{all};
+ghost use Rattle.ints.specs.Table.{tab, all};
 
 // The size of a number, of the least one too.
 pub fn size(x: i64) -> u64
@@ -64,4 +65,15 @@ pub fn all_between(list: &[i64], low: i64, high: i64) -> bool
         i += 1;
     }
     passed
+}
+
+// Zeros throughout a list.
+pub fn clear(list: &mut [i64])
+    ensures { λ _. ⌜ now (list .exit) ≡ tab (λ _. pos 0) (length (now (list .entry))) ⌝ }
+{
+    let mut i: usize = 0;
+    while i < list.len() {
+        list[i] = 0;
+        i += 1;
+    }
 }

@@ -1,10 +1,8 @@
 // The split by largest remainders (document 01, "The split").
 ghost use mathlib.Core.Path.{_≡_};
-ghost use mathlib.Core.Bool.{Bool};
-ghost use Prim.Native.Nat.{ℕ, _+_, _*_, _≤_, _<_};
+ghost use Prim.Native.Nat.{_+_, _*_, _≤_, _<_};
 ghost use lib.Dec.{ltb};
 ghost use lib.ListN.{length, getD, take};
-ghost use lib.IntN.{ℤ, pos};
 ghost use Rattle.ints.specs.Number.{signed};
 ghost use Rattle.ints.specs.Sum.{one};
 ghost use Rattle.ints.specs.Table.{tab};
@@ -156,17 +154,6 @@ fn fill(neg: bool, size: u64, shares: &[i64], total: u64, parts: &mut [i64])
     hand_out(neg, &cuts, &keys, floor, parts);
 }
 
-// Zeros.
-fn clear(parts: &mut [i64])
-    ensures { λ _. ⌜ now (parts .exit) ≡ tab (λ i. pos 0) (length (now (parts .entry))) ⌝ }
-{
-    let mut i: usize = 0;
-    while i < parts.len() {
-        parts[i] = 0;
-        i += 1;
-    }
-}
-
 // An amount split over shares.
 pub fn split(amount: i64, shares: &[i64], parts: &mut [i64]) -> u32
     ensures { λ r. ⌜ r ≡ refusal amount (now (shares .entry)) (length (now (parts .entry))) ⌝ }
@@ -189,7 +176,7 @@ pub fn split(amount: i64, shares: &[i64], parts: &mut [i64]) -> u32
     }
     let size = ints::size(amount);
     if size == 0 {
-        clear(parts);
+        ints::clear(parts);
         return 0;
     }
     let total = total_of(shares);

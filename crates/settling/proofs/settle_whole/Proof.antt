@@ -9,7 +9,7 @@ use lib.Seq.{length-take-le}
 use borrow.Author.Needs.{needs}
 use Rattle.ints.specs.Refusal.{lent}
 use Rattle.ints.proofs.Ranges.{zeros-range}
-use Rattle.ints.proofs.Refusals.{lent-before}
+use Rattle.ints.proofs.Refusals.{lent-result, lent-before}
 use Rattle.ints.proofs.Turns.{then-ends, then-follows}
 use Rattle.exercise.proofs.Whole.{small}
 use Rattle.credits.specs.Facts.{Natural}
@@ -24,7 +24,7 @@ use Rattle.settling.proofs.settle_whole.Tie as tie
 nothing : Totals (replicate 64 (pos 0)) 0
 nothing = record { long = refl; range = zeros-range 64 0 }
 
-module _ (f : tie.After-charge-file) where
+module _ (f : tie.After-charge) where
   abbrev given : tie.Start
   given = f .before .before .before .before .before
 
@@ -34,42 +34,42 @@ module _ (f : tie.After-charge-file) where
   few : count ≤ 64
   few = omega (arith, given .pre .1 .congestion-each, small (given .args .file .now) .participants)
 
-  charged-room : count ≤ length (f .charge-file .last .1 .0)
-  charged-room = omega (arith, few, f .charge-file .kept .1 .0)
+  charged-room : count ≤ length (f .charge .last .1 .0)
+  charged-room = omega (arith, few, f .charge .kept .1 .0)
 
-  lost-room : count ≤ length (f .charge-file .last .1 .1 .0)
-  lost-room = omega (arith, few, f .charge-file .kept .1 .1 .0)
+  lost-room : count ≤ length (f .charge .last .1 .1 .0)
+  lost-room = omega (arith, few, f .charge .kept .1 .1 .0)
 
-  shares-room : count ≤ length (f .charge-file .last .1 .1 .1 .0)
-  shares-room = omega (arith, few, f .charge-file .kept .1 .1 .1 .0)
+  shares-room : count ≤ length (f .charge .last .1 .1 .1 .0)
+  shares-room = omega (arith, few, f .charge .kept .1 .1 .1 .0)
 
 -- where the file was charged: what is handed on is what the file's lists are made of
 module _ (l : tie.Else1) where
-  abbrev charged-file : tie.After-charge-file
-  charged-file = l .before .before .before .before
+  abbrev charged : tie.After-charge
+  charged = l .before .before .before .before
 
   abbrev start : tie.Start
-  start = given charged-file
+  start = given charged
 
-  shared : take (count charged-file) (charged-file .charge-file .last .1 .1 .1 .0) ≡ shares (start .args .file .now)
-  shared = the-shares (start .args .file .now) (count charged-file) (start .pre .1 .congestion-each) (shares-room charged-file) (charged-file .charge-file .ensures .1 .1 .1 (l .if1 .left))
+  shared : take (count charged) (charged .charge .last .1 .1 .1 .0) ≡ shares (start .args .file .now)
+  shared = the-shares (start .args .file .now) (count charged) (start .pre .1 .congestion-each) (few charged) (charged .charge .ensures .1 .1 .1 ∙ lent-result _ _ _ (l .if1 .left))
 
-slice-aggregate-charge-file : tie.Need-slice-aggregate-charge-file
-slice-aggregate-charge-file c = search needs
+slice-aggregate-charge : tie.Need-slice-aggregate-charge
+slice-aggregate-charge c = search needs
 
-slice-aggregate-charge-file-2 : tie.Need-slice-aggregate-charge-file-2
-slice-aggregate-charge-file-2 c = search needs
+slice-aggregate-charge-2 : tie.Need-slice-aggregate-charge-2
+slice-aggregate-charge-2 c = search needs
 
-slice-aggregate-charge-file-3 : tie.Need-slice-aggregate-charge-file-3
-slice-aggregate-charge-file-3 c = search needs
+slice-aggregate-charge-3 : tie.Need-slice-aggregate-charge-3
+slice-aggregate-charge-3 c = search needs
 
-charge-file-requires : tie.Need-charge-file-requires
-charge-file-requires c κs = let s = c .before .before .before .before in
+charge-requires : tie.Need-charge-requires
+charge-requires c κs = let s = c .before .before .before .before in
     (s .pre .0, (nothing, nothing, nothing))
 
 returns : tie.Need-returns
 returns c = let f = c .before .before .before .before in
-    (then-ends _ _ _ (c .if1 .taken) (f .charge-file .ensures .0), (lent-before _ _ _ (c .if1 .taken), (lent-before _ _ _ (c .if1 .taken), (lent-before _ _ _ (c .if1 .taken), lent-before _ _ _ (c .if1 .taken)))))
+    (then-ends _ _ _ (c .if1 .taken) (f .charge .ensures .0), (lent-before _ _ _ (c .if1 .taken), (lent-before _ _ _ (c .if1 .taken), (lent-before _ _ _ (c .if1 .taken), lent-before _ _ _ (c .if1 .taken)))))
 
 array-borrow-prefix-charged : tie.Need-array-borrow-prefix-charged
 array-borrow-prefix-charged c = charged-room (c .before .before .before .before)
@@ -91,9 +91,9 @@ slice-aggregate-bill-3 c = let f = c .before .before .before .before .before .be
 
 bill-requires : tie.Need-bill-requires
 bill-requires c κs = let l = c .before .before .before .before .before .before .before in
-    let f = charged-file l in
+    let f = charged l in
     let o = start l .pre .1 in
-    let n = length-take-le (count f) (f .charge-file .last .1 .1 .1 .0) (shares-room f) in
+    let n = length-take-le (count f) (f .charge .last .1 .1 .1 .0) (shares-room f) in
     record {
       some = omega (arith, n, o .congestion-each, some-participant (start l .args .file .now));
       few = omega (arith, n, few f);
@@ -121,15 +121,15 @@ same-length-4 c = search needs
 returns-2 : tie.Need-returns-2
 returns-2 c = let p = c .before .before .before .before .before .before in
     let l = p .before .before .before .before .before .before .before .before in
-    let f = charged-file l in
+    let f = charged l in
     let s = start l in
     let file = s .args .file .now in
     let is = s .pre .1 .congestion-each in
     let e = p .bill .ensures in
-    let c1 = congestion-charges file (count f) is (charged-room f) (f .charge-file .ensures .1 .0 (l .if1 .left)) in
-    let l1 = loss-charges file (count f) is (lost-room f) (f .charge-file .ensures .1 .1 .0 (l .if1 .left)) in
+    let c1 = congestion-charges file (count f) is (few f) (f .charge .ensures .1 .0 ∙ lent-result _ _ _ (l .if1 .left)) in
+    let l1 = loss-charges file (count f) is (few f) (f .charge .ensures .1 .1 .0 ∙ lent-result _ _ _ (l .if1 .left)) in
     let s1 = shared l in (
-      e .0 ∙ the-refusal file _ _ l1 s1 ∙ then-follows _ _ _ (l .if1 .left) (f .charge-file .ensures .0),
+      e .0 ∙ the-refusal file _ _ l1 s1 ∙ then-follows _ _ _ (l .if1 .left) (f .charge .ensures .0),
       (
         e .1 .0 ∙ ap (λ (xs : List ℤ). lent (p .bill .result) xs (s .args .congestion .now)) c1,
         (
@@ -146,10 +146,10 @@ pub settle-whole-spec : {M : Type 1} → statement M
 settle-whole-spec =
     tie.close
     (tie.spec
-    slice-aggregate-charge-file
-    slice-aggregate-charge-file-2
-    slice-aggregate-charge-file-3
-    charge-file-requires
+    slice-aggregate-charge
+    slice-aggregate-charge-2
+    slice-aggregate-charge-3
+    charge-requires
     returns
     array-borrow-prefix-charged
     slice-aggregate-bill

@@ -1,4 +1,4 @@
--- `settling::charge_listed` meets its contract. Assumes nothing.
+-- `charging::charge_listed` meets its contract. Assumes nothing.
 use mathlib.Core.Path.{_≡_, refl, sym, ap, _∙_}
 use Prim.Native.Nat.{ℕ}
 use borrow.Author.Needs.{needs}
@@ -7,8 +7,8 @@ use Rattle.tariff.specs.Parts.{aheadWeight}
 use Rattle.tariff.specs.Tariff.{priceList}
 use Rattle.hour.proofs.Total.{charged}
 use Rattle.totals.proofs.Weights.{tables}
-use Rattle.settling.proofs.charge_listed.Statement.{statement}
-use Rattle.settling.proofs.charge_listed.Tie as tie
+use Rattle.charging.proofs.charge_listed.Statement.{statement}
+use Rattle.charging.proofs.charge_listed.Tie as tie
 
 module _ (w : tie.After-weigh2) where
   abbrev first : tie.After-weigh

@@ -1,4 +1,4 @@
--- `settling::charge_priced` meets its contract. Assumes nothing.
+-- `charging::charge_priced` meets its contract. Assumes nothing.
 use mathlib.Core.Path.{_≡_, sym, ap, _∙_}
 use mathlib.Core.List.{List}
 use Prim.Native.Nat.{ℕ, _*_}
@@ -7,8 +7,8 @@ use borrow.Author.Needs.{needs}
 use Rattle.ints.proofs.Turns.{then-ends, then-follows}
 use Rattle.exercise.specs.Price.{pricesFrom, pricesRefusal}
 use Rattle.hour.proofs.Priced.{congestion-is, loss-is, table-range, at-prices}
-use Rattle.settling.proofs.charge_priced.Statement.{statement}
-use Rattle.settling.proofs.charge_priced.Tie as tie
+use Rattle.charging.proofs.charge_priced.Statement.{statement}
+use Rattle.charging.proofs.charge_priced.Tie as tie
 
 module _ (t : tie.After-read-table) where
   abbrev given : tie.Start

@@ -1,10 +1,10 @@
--- `settling::charge_file` meets its contract. Assumes nothing.
+-- `charging::charge_file` meets its contract. Assumes nothing.
 use native.Mathlib.Omega.{arith}
 use borrow.Author.Needs.{needs}
 use Rattle.exercise.proofs.Whole.{Found, found, whole, small-read}
 use Rattle.hour.proofs.Parts.{its-parts, file-refusal, file-congestion, file-loss, file-shares}
-use Rattle.settling.proofs.charge_file.Statement.{statement}
-use Rattle.settling.proofs.charge_file.Tie as tie
+use Rattle.charging.proofs.charge_file.Statement.{statement}
+use Rattle.charging.proofs.charge_file.Tie as tie
 
 abbrev given : tie.After-places-of → tie.Start
 given p = p .before .before .before

@@ -1,4 +1,4 @@
--- `settling::charge_rows` meets its contract. Assumes nothing.
+-- `charging::charge_rows` meets its contract. Assumes nothing.
 use mathlib.Core.Path.{_≡_, refl, sym, ap, _∙_}
 use mathlib.Core.List.{List}
 use Prim.Native.Nat.{ℕ, _-_, _≤_, _<_}
@@ -16,8 +16,8 @@ use Rattle.totals.specs.Given.{partIn, Totals, sharesMost, rowsMost}
 use Rattle.totals.specs.Share.{shareKw}
 use Rattle.hour.proofs.Decoded.{row-is, row-passed}
 use Rattle.totals.proofs.Weights.{part-range, share-range}
-use Rattle.settling.proofs.charge_rows.Statement.{statement}
-use Rattle.settling.proofs.charge_rows.Tie as tie
+use Rattle.charging.proofs.charge_rows.Statement.{statement}
+use Rattle.charging.proofs.charge_rows.Tie as tie
 
 -- totals to which the first i rows, and shares to which their kW, have been added
 abbrev Charging : List ℕ → ℕ → List ℤ → List ℤ → List ℤ → ℕ → List ℤ → Type 0

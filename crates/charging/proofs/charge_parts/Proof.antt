@@ -1,4 +1,4 @@
--- `settling::charge_parts` meets its contract. Assumes nothing.
+-- `charging::charge_parts` meets its contract. Assumes nothing.
 use mathlib.Core.Path.{_≡_, sym}
 use Prim.Native.Nat.{_*_}
 use native.Mathlib.Omega.{arith}
@@ -6,8 +6,8 @@ use lib.IntN.{pos}
 use lib.ListN.{length, take, replicate}
 use lib.Seq.{length-take-le}
 use borrow.Author.Needs.{needs}
-use Rattle.settling.proofs.charge_parts.Statement.{statement}
-use Rattle.settling.proofs.charge_parts.Tie as tie
+use Rattle.charging.proofs.charge_parts.Statement.{statement}
+use Rattle.charging.proofs.charge_parts.Tie as tie
 
 -- the fronts of lists as they are made
 short : (s : tie.Start) → length (take (s .args .header .locations) (replicate 64 (pos 0))) ≡ s .args .header .locations

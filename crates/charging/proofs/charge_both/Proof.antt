@@ -1,10 +1,10 @@
--- `settling::charge_both` meets its contract. Assumes nothing.
+-- `charging::charge_both` meets its contract. Assumes nothing.
 use mathlib.Core.Path.{_∙_}
 use borrow.Author.Needs.{needs}
 use Rattle.ints.proofs.Turns.{then-ends, then-follows}
 use Rattle.hour.proofs.Added.{shared, both-added}
-use Rattle.settling.proofs.charge_both.Statement.{statement}
-use Rattle.settling.proofs.charge_both.Tie as tie
+use Rattle.charging.proofs.charge_both.Statement.{statement}
+use Rattle.charging.proofs.charge_both.Tie as tie
 
 abbrev given : tie.After-charge-rows → tie.Start
 given r = r .before .before .before .before .before .before

@@ -1,4 +1,4 @@
--- `settling::charge_transactions` meets its contract. Assumes nothing.
+-- `charging::charge_transactions` meets its contract. Assumes nothing.
 use mathlib.Core.Path.{_≡_, refl, sym, ap, _∙_}
 use mathlib.Core.List.{List}
 use Prim.Native.Nat.{ℕ, _-_, _≤_, _<_}
@@ -15,8 +15,8 @@ use Rattle.rows.proofs.Answers.{transaction-next, transaction-first, transactio
 use Rattle.totals.specs.Given.{pathPartIn, Totals, rowsMost, hourMost}
 use Rattle.hour.proofs.Decoded.{transaction-is, transaction-passed}
 use Rattle.totals.proofs.Weights.{path-part-range}
-use Rattle.settling.proofs.charge_transactions.Statement.{statement}
-use Rattle.settling.proofs.charge_transactions.Tie as tie
+use Rattle.charging.proofs.charge_transactions.Statement.{statement}
+use Rattle.charging.proofs.charge_transactions.Tie as tie
 
 -- totals to which the first i transactions have been added
 abbrev Charging : List ℕ → ℕ → List ℤ → List ℤ → List ℤ → ℕ → List ℤ → Type 0

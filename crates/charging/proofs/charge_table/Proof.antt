@@ -1,8 +1,8 @@
--- `settling::charge_table` meets its contract. Assumes nothing.
+-- `charging::charge_table` meets its contract. Assumes nothing.
 use borrow.Author.Needs.{needs}
 use Rattle.hour.proofs.Priced.{congestion-listed, loss-listed}
-use Rattle.settling.proofs.charge_table.Statement.{statement}
-use Rattle.settling.proofs.charge_table.Tie as tie
+use Rattle.charging.proofs.charge_table.Statement.{statement}
+use Rattle.charging.proofs.charge_table.Tie as tie
 
 mul-a : tie.Need-mul-a
 mul-a c = search needs

@@ -1,0 +1,363 @@
+// Charging an hour: the rows and transactions of an exercise file, at its two price lists, to exact totals.
+ghost use mathlib.Core.Path.{_≡_};
+ghost use Prim.Native.Nat.{_*_, _≤_};
+ghost use lib.ListN.{length};
+ghost use Rattle.ints.specs.Range.{InRange};
+ghost use Rattle.ints.specs.Refusal.{lent};
+ghost use Rattle.ints.specs.Table.{tab};
+ghost use Rattle.rows.specs.Row.{rowsIn, rowsRefusal};
+ghost use Rattle.rows.specs.Transaction.{transactionsIn, transactionsRefusal};
+ghost use Rattle.exercise.specs.Price.{pricesFrom, pricesRefusal};
+ghost use Rattle.exercise.specs.File.{priceCount, rows, transactions, throughLength, fromPrices};
+ghost use Rattle.tariff.specs.Tariff.{priceList};
+ghost use Rattle.totals.specs.Given.{Listed, Tables, Totals, rowsMost};
+ghost use Rattle.hour.specs.Given.{RowsAdded, SharesAdded, TransactionsAdded, bothRefusal, BothAdded, congestionCut, lossCut, Parts, partsRefusal, congestionIn, lossIn, Charged, Shared};
+ghost use Rattle.hour.specs.Charges.{congestionPrices, lossPrices, congestionTotal, lossTotal, shareOf};
+use exercise::DecodedRow;
+use exercise::DecodedTransaction;
+use exercise::Header;
+
+// ---- rows and transactions in turn: each is read once, and counts for congestion and for losses
+
+// The first n rows of a stretch, up to the first refused one: its refusal, or 0.
+fn charge_rows(
+    participants: usize,
+    locations: usize,
+    rows: &[u8],
+    n: usize,
+    congestion_weights: &[i64],
+    congestion_real: &[i64],
+    loss_weights: &[i64],
+    loss_real: &[i64],
+    charged: &mut [i64],
+    lost: &mut [i64],
+    shares: &mut [i64],
+) -> u32
+    requires { ⌜ (participants ≤ 64) × (n ≤ 2048) × (6 * n ≤ length (now rows)) ⌝ }
+    requires { ⌜ Tables locations (now «congestion_weights») (now «congestion_real») × Tables locations (now «loss_weights») (now «loss_real») ⌝ }
+    requires { ⌜ Totals (now charged) 0 × Totals (now lost) 0 × Totals (now shares) 0 ⌝ }
+    ensures { λ r. ⌜ r ≡ rowsRefusal participants locations (now (rows .entry)) n ⌝ }
+    ensures { λ r. ⌜ (r ≡ 0 → RowsAdded (rowsIn (now (rows .entry)) n) locations (now («congestion_weights» .entry)) (now («congestion_real» .entry)) (now (charged .entry)) (now (charged .exit)) × InRange (now (charged .exit)) rowsMost) ⌝ }
+    ensures { λ r. ⌜ (r ≡ 0 → RowsAdded (rowsIn (now (rows .entry)) n) locations (now («loss_weights» .entry)) (now («loss_real» .entry)) (now (lost .entry)) (now (lost .exit)) × InRange (now (lost .exit)) rowsMost) ⌝ }
+    ensures { λ r. ⌜ (r ≡ 0 → SharesAdded (rowsIn (now (rows .entry)) n) (now (shares .entry)) (now (shares .exit))) ⌝ }
+{
+    let mut i: usize = 0;
+    while i < n {
+        let decoded = exercise::row_at(participants, locations, rows, i);
+        let DecodedRow::Decoded(row) = decoded else {
+            return exercise::row_number(decoded);
+        };
+        totals::add_row(row, locations, congestion_weights, congestion_real, charged);
+        totals::add_row(row, locations, loss_weights, loss_real, lost);
+        totals::add_share(row, shares);
+        i += 1;
+    }
+    0
+}
+
+// The first n transactions of a stretch, up to the first refused one: its refusal, or 0.
+fn charge_transactions(
+    participants: usize,
+    locations: usize,
+    transactions: &[u8],
+    n: usize,
+    congestion_weights: &[i64],
+    congestion_real: &[i64],
+    loss_weights: &[i64],
+    loss_real: &[i64],
+    charged: &mut [i64],
+    lost: &mut [i64],
+) -> u32
+    requires { ⌜ (participants ≤ 64) × (n ≤ 256) × (6 * n ≤ length (now transactions)) ⌝ }
+    requires { ⌜ Tables locations (now «congestion_weights») (now «congestion_real») × Tables locations (now «loss_weights») (now «loss_real») ⌝ }
+    requires { ⌜ Totals (now charged) rowsMost × Totals (now lost) rowsMost ⌝ }
+    ensures { λ r. ⌜ r ≡ transactionsRefusal participants locations (now (transactions .entry)) n ⌝ }
+    ensures { λ r. ⌜ (r ≡ 0 → TransactionsAdded (transactionsIn (now (transactions .entry)) n) locations (now («congestion_weights» .entry)) (now («congestion_real» .entry)) (now (charged .entry)) (now (charged .exit))) ⌝ }
+    ensures { λ r. ⌜ (r ≡ 0 → TransactionsAdded (transactionsIn (now (transactions .entry)) n) locations (now («loss_weights» .entry)) (now («loss_real» .entry)) (now (lost .entry)) (now (lost .exit))) ⌝ }
+{
+    let mut i: usize = 0;
+    while i < n {
+        let decoded = exercise::transaction_at(participants, locations, transactions, i);
+        let DecodedTransaction::Decoded(transaction) = decoded else {
+            return exercise::transaction_number(decoded);
+        };
+        totals::add_transaction(
+            transaction,
+            locations,
+            congestion_weights,
+            congestion_real,
+            charged,
+        );
+        totals::add_transaction(transaction, locations, loss_weights, loss_real, lost);
+        i += 1;
+    }
+    0
+}
+
+// Charges rows, then transactions: the first refusal, or 0.
+fn charge_both(
+    header: Header,
+    rows: &[u8],
+    transactions: &[u8],
+    congestion_weights: &[i64],
+    congestion_real: &[i64],
+    loss_weights: &[i64],
+    loss_real: &[i64],
+    charged: &mut [i64],
+    lost: &mut [i64],
+    shares: &mut [i64],
+) -> u32
+    requires { ⌜ (header .participants ≤ 64) × (header .rows ≤ 2048) × (header .transactions ≤ 256) × (6 * header .rows ≤ length (now rows)) × (6 * header .transactions ≤ length (now transactions)) ⌝ }
+    requires { ⌜ Tables (header .locations) (now «congestion_weights») (now «congestion_real») × Tables (header .locations) (now «loss_weights») (now «loss_real») ⌝ }
+    requires { ⌜ Totals (now charged) 0 × Totals (now lost) 0 × Totals (now shares) 0 ⌝ }
+    ensures { λ r. ⌜ r ≡ bothRefusal header (now (rows .entry)) (now (transactions .entry)) ⌝ }
+    ensures { λ r. ⌜ (r ≡ 0 → BothAdded header (now (rows .entry)) (now (transactions .entry)) (now («congestion_weights» .entry)) (now («congestion_real» .entry)) (now (charged .exit))) ⌝ }
+    ensures { λ r. ⌜ (r ≡ 0 → BothAdded header (now (rows .entry)) (now (transactions .entry)) (now («loss_weights» .entry)) (now («loss_real» .entry)) (now (lost .exit))) ⌝ }
+    ensures { λ r. ⌜ (r ≡ 0 → Shared (rowsIn (now (rows .entry)) (header .rows)) (now (shares .exit))) ⌝ }
+{
+    let refusal = charge_rows(
+        header.participants,
+        header.locations,
+        rows,
+        header.rows,
+        congestion_weights,
+        congestion_real,
+        loss_weights,
+        loss_real,
+        charged,
+        lost,
+        shares,
+    );
+    if refusal != 0 {
+        return refusal;
+    }
+    charge_transactions(
+        header.participants,
+        header.locations,
+        transactions,
+        header.transactions,
+        congestion_weights,
+        congestion_real,
+        loss_weights,
+        loss_real,
+        charged,
+        lost,
+    )
+}
+
+// Rows and transactions at two price lists. The weights are made in the lists that are lent for them.
+fn charge_listed(
+    header: Header,
+    rows: &[u8],
+    transactions: &[u8],
+    congestion_ahead: &[i64],
+    congestion_real: &[i64],
+    loss_ahead: &[i64],
+    loss_real: &[i64],
+    congestion_weights: &mut [i64],
+    loss_weights: &mut [i64],
+    charged: &mut [i64],
+    lost: &mut [i64],
+    shares: &mut [i64],
+) -> u32
+    requires { ⌜ (header .participants ≤ 64) × (header .rows ≤ 2048) × (header .transactions ≤ 256) × (6 * header .rows ≤ length (now rows)) × (6 * header .transactions ≤ length (now transactions)) ⌝ }
+    requires { ⌜ Listed (header .locations) (now «congestion_ahead») (now «congestion_real») × Listed (header .locations) (now «loss_ahead») (now «loss_real») ⌝ }
+    requires { ⌜ (length (now «congestion_weights») ≡ header .locations) × (length (now «loss_weights») ≡ header .locations) ⌝ }
+    requires { ⌜ Totals (now charged) 0 × Totals (now lost) 0 × Totals (now shares) 0 ⌝ }
+    ensures { λ r. ⌜ r ≡ bothRefusal header (now (rows .entry)) (now (transactions .entry)) ⌝ }
+    ensures { λ r. ⌜ (r ≡ 0 → Charged (priceList (header .locations) (now («congestion_ahead» .entry)) (now («congestion_real» .entry))) (rowsIn (now (rows .entry)) (header .rows)) (transactionsIn (now (transactions .entry)) (header .transactions)) (now (charged .exit))) ⌝ }
+    ensures { λ r. ⌜ (r ≡ 0 → Charged (priceList (header .locations) (now («loss_ahead» .entry)) (now («loss_real» .entry))) (rowsIn (now (rows .entry)) (header .rows)) (transactionsIn (now (transactions .entry)) (header .transactions)) (now (lost .exit))) ⌝ }
+    ensures { λ r. ⌜ (r ≡ 0 → Shared (rowsIn (now (rows .entry)) (header .rows)) (now (shares .exit))) ⌝ }
+{
+    totals::weigh(congestion_ahead, congestion_real, congestion_weights);
+    totals::weigh(loss_ahead, loss_real, loss_weights);
+    charge_both(
+        header,
+        rows,
+        transactions,
+        congestion_weights,
+        congestion_real,
+        loss_weights,
+        loss_real,
+        charged,
+        lost,
+        shares,
+    )
+}
+
+// The same from a table of all prices: congestion day-ahead, congestion real time, loss day-ahead, loss real time.
+fn charge_table(
+    header: Header,
+    rows: &[u8],
+    transactions: &[u8],
+    table: &[i64],
+    congestion_weights: &mut [i64],
+    loss_weights: &mut [i64],
+    charged: &mut [i64],
+    lost: &mut [i64],
+    shares: &mut [i64],
+) -> u32
+    requires { ⌜ (header .participants ≤ 64) × (header .rows ≤ 2048) × (header .transactions ≤ 256) × (6 * header .rows ≤ length (now rows)) × (6 * header .transactions ≤ length (now transactions)) ⌝ }
+    requires { ⌜ (header .locations ≤ 64) × (length (now table) ≡ priceCount header) × InRange (now table) 5000000 ⌝ }
+    requires { ⌜ (length (now «congestion_weights») ≡ header .locations) × (length (now «loss_weights») ≡ header .locations) ⌝ }
+    requires { ⌜ Totals (now charged) 0 × Totals (now lost) 0 × Totals (now shares) 0 ⌝ }
+    ensures { λ r. ⌜ r ≡ bothRefusal header (now (rows .entry)) (now (transactions .entry)) ⌝ }
+    ensures { λ r. ⌜ (r ≡ 0 → Charged (congestionCut (header .locations) (now (table .entry))) (rowsIn (now (rows .entry)) (header .rows)) (transactionsIn (now (transactions .entry)) (header .transactions)) (now (charged .exit))) ⌝ }
+    ensures { λ r. ⌜ (r ≡ 0 → Charged (lossCut (header .locations) (now (table .entry))) (rowsIn (now (rows .entry)) (header .rows)) (transactionsIn (now (transactions .entry)) (header .transactions)) (now (lost .exit))) ⌝ }
+    ensures { λ r. ⌜ (r ≡ 0 → Shared (rowsIn (now (rows .entry)) (header .rows)) (now (shares .exit))) ⌝ }
+{
+    let n = header.locations;
+    let a = 13 * n;
+    let b = 14 * n;
+    let c = 26 * n;
+    charge_listed(
+        header,
+        rows,
+        transactions,
+        &table[0..n],
+        &table[n..a],
+        &table[a..b],
+        &table[b..c],
+        congestion_weights,
+        loss_weights,
+        charged,
+        lost,
+        shares,
+    )
+}
+
+// ---- the parts of a file: prices, rows and transactions
+
+// All prices, read into a table, and their refusal, 0 where there is none.
+fn read_table(prices: &[u8], table: &mut [i64]) -> u32
+    requires { ⌜ 3 * length (now table) ≤ length (now prices) ⌝ }
+    ensures { λ r. ⌜ r ≡ pricesRefusal (now (prices .entry)) (length (now (table .entry))) ⌝ }
+    ensures { λ _. ⌜ now (table .exit) ≡ pricesFrom (now (prices .entry)) 0 (length (now (table .entry))) ⌝ }
+{
+    exercise::read_prices(prices, 0, table);
+    if ints::all_between(table, -5_000_000, 5_000_000) {
+        return 0;
+    }
+    2
+}
+
+// Charges these: prices first, then rows and transactions. Table and weights are made in the lists that are lent for them.
+fn charge_priced(
+    header: Header,
+    prices: &[u8],
+    rows: &[u8],
+    transactions: &[u8],
+    table: &mut [i64],
+    congestion_weights: &mut [i64],
+    loss_weights: &mut [i64],
+    charged: &mut [i64],
+    lost: &mut [i64],
+    shares: &mut [i64],
+) -> u32
+    requires { ⌜ Parts header (now prices) (now rows) (now transactions) ⌝ }
+    requires { ⌜ (length (now table) ≡ priceCount header) × (length (now «congestion_weights») ≡ header .locations) × (length (now «loss_weights») ≡ header .locations) ⌝ }
+    requires { ⌜ Totals (now charged) 0 × Totals (now lost) 0 × Totals (now shares) 0 ⌝ }
+    ensures { λ r. ⌜ r ≡ partsRefusal header (now (prices .entry)) (now (rows .entry)) (now (transactions .entry)) ⌝ }
+    ensures { λ r. ⌜ (r ≡ 0 → Charged (congestionIn header (now (prices .entry))) (rowsIn (now (rows .entry)) (header .rows)) (transactionsIn (now (transactions .entry)) (header .transactions)) (now (charged .exit))) ⌝ }
+    ensures { λ r. ⌜ (r ≡ 0 → Charged (lossIn header (now (prices .entry))) (rowsIn (now (rows .entry)) (header .rows)) (transactionsIn (now (transactions .entry)) (header .transactions)) (now (lost .exit))) ⌝ }
+    ensures { λ r. ⌜ (r ≡ 0 → Shared (rowsIn (now (rows .entry)) (header .rows)) (now (shares .exit))) ⌝ }
+{
+    let refusal = read_table(prices, table);
+    if refusal != 0 {
+        return refusal;
+    }
+    charge_table(
+        header,
+        rows,
+        transactions,
+        table,
+        congestion_weights,
+        loss_weights,
+        charged,
+        lost,
+        shares,
+    )
+}
+
+// The same, with a table and weights of its own.
+fn charge_parts(
+    header: Header,
+    prices: &[u8],
+    rows: &[u8],
+    transactions: &[u8],
+    charged: &mut [i64],
+    lost: &mut [i64],
+    shares: &mut [i64],
+) -> u32
+    requires { ⌜ Parts header (now prices) (now rows) (now transactions) ⌝ }
+    requires { ⌜ Totals (now charged) 0 × Totals (now lost) 0 × Totals (now shares) 0 ⌝ }
+    ensures { λ r. ⌜ r ≡ partsRefusal header (now (prices .entry)) (now (rows .entry)) (now (transactions .entry)) ⌝ }
+    ensures { λ r. ⌜ (r ≡ 0 → Charged (congestionIn header (now (prices .entry))) (rowsIn (now (rows .entry)) (header .rows)) (transactionsIn (now (transactions .entry)) (header .transactions)) (now (charged .exit))) ⌝ }
+    ensures { λ r. ⌜ (r ≡ 0 → Charged (lossIn header (now (prices .entry))) (rowsIn (now (rows .entry)) (header .rows)) (transactionsIn (now (transactions .entry)) (header .transactions)) (now (lost .exit))) ⌝ }
+    ensures { λ r. ⌜ (r ≡ 0 → Shared (rowsIn (now (rows .entry)) (header .rows)) (now (shares .exit))) ⌝ }
+{
+    let mut table = [0i64; 1664];
+    let mut congestion_weights = [0i64; 64];
+    let mut loss_weights = [0i64; 64];
+    let n = header.locations;
+    let m = 26 * n;
+    charge_priced(
+        header,
+        prices,
+        rows,
+        transactions,
+        &mut table[..m],
+        &mut congestion_weights[..n],
+        &mut loss_weights[..n],
+        charged,
+        lost,
+        shares,
+    )
+}
+
+// ---- the file
+
+// The exact charges and the shares of a file that passes the order to its length: the refusal from the prices on, or 0.
+fn charge_file(file: &[u8], charged: &mut [i64], lost: &mut [i64], shares: &mut [i64]) -> u32
+    requires { ⌜ throughLength (now file) ≡ 0 ⌝ }
+    requires { ⌜ Totals (now charged) 0 × Totals (now lost) 0 × Totals (now shares) 0 ⌝ }
+    ensures { λ r. ⌜ r ≡ fromPrices (now (file .entry)) ⌝ }
+    ensures { λ r. ⌜ (r ≡ 0 → Charged (congestionPrices (now (file .entry))) (rows (now (file .entry))) (transactions (now (file .entry))) (now (charged .exit))) ⌝ }
+    ensures { λ r. ⌜ (r ≡ 0 → Charged (lossPrices (now (file .entry))) (rows (now (file .entry))) (transactions (now (file .entry))) (now (lost .exit))) ⌝ }
+    ensures { λ r. ⌜ (r ≡ 0 → Shared (rows (now (file .entry))) (now (shares .exit))) ⌝ }
+{
+    let header = exercise::read_header(file);
+    let places = exercise::places_of(header);
+    let prices_at = places.prices;
+    let rows_at = places.rows;
+    let transactions_at = places.transactions;
+    let end = places.end;
+    charge_parts(
+        header,
+        &file[prices_at..rows_at],
+        &file[rows_at..transactions_at],
+        &file[transactions_at..end],
+        charged,
+        lost,
+        shares,
+    )
+}
+
+// The exact charges and the shares of such a file. A refused file leaves the lists as they were.
+pub fn charge(file: &[u8], charged: &mut [i64], lost: &mut [i64], shares: &mut [i64]) -> u32
+    requires { ⌜ throughLength (now file) ≡ 0 ⌝ }
+    requires { ⌜ Totals (now charged) 0 × Totals (now lost) 0 × Totals (now shares) 0 ⌝ }
+    ensures { λ r. ⌜ r ≡ fromPrices (now (file .entry)) ⌝ }
+    ensures { λ r. ⌜ now (charged .exit) ≡ lent r (tab (congestionTotal (now (file .entry))) 64) (now (charged .entry)) ⌝ }
+    ensures { λ r. ⌜ now (lost .exit) ≡ lent r (tab (lossTotal (now (file .entry))) 64) (now (lost .entry)) ⌝ }
+    ensures { λ r. ⌜ now (shares .exit) ≡ lent r (tab (shareOf (now (file .entry))) 64) (now (shares .entry)) ⌝ }
+{
+    let refusal = charge_file(file, charged, lost, shares);
+    if refusal != 0 {
+        ints::clear(charged);
+        ints::clear(lost);
+        ints::clear(shares);
+        return refusal;
+    }
+    0
+}
