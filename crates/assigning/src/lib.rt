@@ -82,7 +82,7 @@ fn split_into(amount: i64, shares: &[i64], made: &mut [i64]) -> u32
     ensures { λ r. ⌜ now (made .exit) ≡ lent r (Split·parts amount (now (shares .entry)) ++ drop (length (now (shares .entry))) (now (made .entry))) (now (made .entry)) ⌝ }
 {
     let n = shares.len();
-    split::split(amount, shares, &mut made[..n])
+    splitting::split(amount, shares, &mut made[..n])
 }
 
 // kW split over shares, into the front of a list.

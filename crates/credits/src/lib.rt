@@ -90,7 +90,7 @@ pub fn pay(
     ensures { λ r. ⌜ now (net .exit) ≡ lent r (netted (now (charges .entry)) (now (losses .entry)) (parts (summed (now (losses .entry))) (now (shares .entry)))) (now (net .entry)) ⌝ }
 {
     let surplus = sum(losses);
-    let refusal = split::split(surplus, shares, credit);
+    let refusal = splitting::split(surplus, shares, credit);
     if refusal == 2 {
         return 10;
     }

@@ -1,10 +1,14 @@
--- The contract of `split` allows one answer and one list: two that it allows at the same arguments are equal. Assumes nothing.
+-- Each public contract allows one result: two that it allows at the same arguments are equal. Assumes nothing.
+-- `F.Post` is the `ensures` of F, over lifetimes, arguments, result and what the lent list holds at exit.
 use mathlib.Core.Path.{_≡_}
 use Prim.Native.Nat.{ℕ}
 use contract.Lifetimes.{Lfts}
 use Rattle.ints.proofs.Unique.{unique}
-use Rattle.split.proofs.split.Reads as split
+use Rattle.split.proofs.fill.Reads as fill
+use Rattle.split.proofs.total_of.Reads as total-of
 
--- `split.Post` is the contract's `ensures`, over lifetimes, arguments, answer and what the lent lists hold at exit
-pub split-unique : (κs : Lfts 2) (a : _) (r s : ℕ) (e f : _) → split.Post κs a r e → split.Post κs a s f → (r ≡ s) × (e .1 .1 .0 .now ≡ f .1 .1 .0 .now)
-split-unique κs a r s e f p q = (unique (p .0) (q .0), unique (p .1) (q .1))
+pub total-of-unique : (κs : Lfts 1) (a : _) (r s : ℕ) (e f : _) → total-of.Post κs a r e → total-of.Post κs a s f → r ≡ s
+total-of-unique κs a r s e f p q = unique p q
+
+pub fill-unique : (κs : Lfts 2) (a : _) (r s : _) (e f : _) → fill.Post κs a r e → fill.Post κs a s f → e .1 .1 .1 .1 .0 .now ≡ f .1 .1 .1 .1 .0 .now
+fill-unique κs a r s e f p q = unique p q

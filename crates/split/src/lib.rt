@@ -1,4 +1,4 @@
-// The split by largest remainders (document 01, "The split").
+// The parts of a size by largest remainders (document 01, "The split").
 ghost use mathlib.Core.Path.{_≡_};
 ghost use Prim.Native.Nat.{_+_, _*_, _≤_, _<_};
 ghost use lib.Dec.{ltb};
@@ -6,7 +6,7 @@ ghost use lib.ListN.{length, getD, take};
 ghost use Rattle.ints.specs.Number.{signed};
 ghost use Rattle.ints.specs.Sum.{one};
 ghost use Rattle.ints.specs.Table.{tab};
-ghost use Rattle.split.specs.Split.{share, total, cutDown, remainder, unitsLeft, part, refusal, outcome};
+ghost use Rattle.split.specs.Split.{share, total, cutDown, remainder, unitsLeft, part};
 ghost use Rattle.split.specs.Given.{Shares, Given, keyOf, above as Given·above, Keys, narrowed, Floor, Cuts};
 
 // Party i's share.
@@ -19,7 +19,7 @@ fn share_at(shares: &[i64], i: usize) -> u64
 }
 
 // The total of the shares.
-fn total_of(shares: &[i64]) -> u64
+pub fn total_of(shares: &[i64]) -> u64
     requires { ⌜ Shares (now shares) ⌝ }
     ensures { λ r. ⌜ r ≡ total (now (shares .entry)) ⌝ }
 {
@@ -142,7 +142,7 @@ fn hand_out(neg: bool, cuts: &[u64; 64], keys: &[u64; 64], floor: u64, parts: &m
 }
 
 // The parts of a size, with the sign.
-fn fill(neg: bool, size: u64, shares: &[i64], total: u64, parts: &mut [i64])
+pub fn fill(neg: bool, size: u64, shares: &[i64], total: u64, parts: &mut [i64])
     requires { ⌜ Given size (now shares) total ⌝ }
     requires { ⌜ length (now parts) ≡ length (now shares) ⌝ }
     ensures { λ _. ⌜ now (parts .exit) ≡ tab (λ i. signed neg (part size (now (shares .entry)) i)) (length (now (shares .entry))) ⌝ }
@@ -152,37 +152,4 @@ fn fill(neg: bool, size: u64, shares: &[i64], total: u64, parts: &mut [i64])
     let units = divide(size, shares, total, &mut cuts, &mut keys);
     let floor = floor_of(&keys, shares.len(), units);
     hand_out(neg, &cuts, &keys, floor, parts);
-}
-
-// An amount split over shares.
-pub fn split(amount: i64, shares: &[i64], parts: &mut [i64]) -> u32
-    ensures { λ r. ⌜ r ≡ refusal amount (now (shares .entry)) (length (now (parts .entry))) ⌝ }
-    ensures { λ _. ⌜ now (parts .exit) ≡ outcome amount (now (shares .entry)) (now (parts .entry)) ⌝ }
-{
-    if shares.len() < 1 {
-        return 1;
-    }
-    if 64 < shares.len() {
-        return 1;
-    }
-    if parts.len() != shares.len() {
-        return 1;
-    }
-    if !ints::is_between(amount, -1_000_000_000, 1_000_000_000) {
-        return 2;
-    }
-    if !ints::all_between(shares, 0, 4_000_000_000) {
-        return 2;
-    }
-    let size = ints::size(amount);
-    if size == 0 {
-        ints::clear(parts);
-        return 0;
-    }
-    let total = total_of(shares);
-    if total == 0 {
-        return 7;
-    }
-    fill(ints::negative(amount), size, shares, total, parts);
-    0
 }

@@ -34,7 +34,7 @@ pub extern "C" fn wz_split(amount: i64, shares: &[u8], parts: &mut [u8]) -> u32
     let mut given = [0i64; 64];
     numbers::read_all(shares, &mut given[..n]);
     let mut made = [0i64; 64];
-    let refused = split::split(amount, &given[..n], &mut made[..n]);
+    let refused = splitting::split(amount, &given[..n], &mut made[..n]);
     if refused != 0 {
         return refused;
     }

@@ -1,4 +1,4 @@
--- `split::split` meets its contract. Assumes nothing.
+-- `splitting::split` meets its contract. Assumes nothing.
 use mathlib.Core.Path.{_≡_, sym, ap, _∙_}
 use mathlib.Core.List.{List}
 use Prim.Native.Nat.{ℕ, suc, _<_}
@@ -13,12 +13,12 @@ use Rattle.ints.specs.Refusal.{lent}
 use Rattle.ints.specs.Table.{all}
 use Rattle.ints.proofs.Refusals.{refused, done}
 use Rattle.ints.proofs.Tests.{between-size}
 use Rattle.split.specs.Given.{Shares, Given}
 use Rattle.split.specs.Split.{total, parts, refusal}
 use Rattle.split.proofs.Accepted.{fromRanges, fromTotal, shares-of, without-amount, with-total, without-total}
 use Rattle.split.proofs.Parts.{zeros-made, amount-made}
-use Rattle.split.proofs.split.Statement.{statement}
-use Rattle.split.proofs.split.Tie as tie
+use Rattle.splitting.proofs.split.Statement.{statement}
+use Rattle.splitting.proofs.split.Tie as tie
 
 -- the answer and the result by the definition, and a refusal with a number other than 0
 abbrev answer : tie.Start → ℕ
