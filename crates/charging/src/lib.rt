@@ -10,7 +10,8 @@ ghost use Rattle.rows.specs.Transaction.{transactionsIn, transactionsRefusal};
 ghost use Rattle.exercise.specs.Price.{pricesFrom, pricesRefusal};
 ghost use Rattle.exercise.specs.File.{priceCount, rows, transactions, throughLength, fromPrices};
 ghost use Rattle.tariff.specs.Tariff.{priceList};
-ghost use Rattle.totals.specs.Given.{Listed, Tables, Totals, rowsMost};
+ghost use Rattle.weights.specs.Given.{Listed, Tables};
+ghost use Rattle.totals.specs.Given.{Totals, rowsMost};
 ghost use Rattle.hour.specs.Given.{RowsAdded, SharesAdded, TransactionsAdded, bothRefusal, BothAdded, congestionCut, lossCut, Parts, partsRefusal, congestionIn, lossIn, Charged, Shared};
 ghost use Rattle.hour.specs.Charges.{congestionPrices, lossPrices, congestionTotal, lossTotal, shareOf};
 use exercise::DecodedRow;
@@ -169,8 +170,8 @@ fn charge_listed(
     ensures { λ r. ⌜ (r ≡ 0 → Charged (priceList (header .locations) (now («loss_ahead» .entry)) (now («loss_real» .entry))) (rowsIn (now (rows .entry)) (header .rows)) (transactionsIn (now (transactions .entry)) (header .transactions)) (now (lost .exit))) ⌝ }
     ensures { λ r. ⌜ (r ≡ 0 → Shared (rowsIn (now (rows .entry)) (header .rows)) (now (shares .exit))) ⌝ }
 {
-    totals::weigh(congestion_ahead, congestion_real, congestion_weights);
-    totals::weigh(loss_ahead, loss_real, loss_weights);
+    weights::weigh(congestion_ahead, congestion_real, congestion_weights);
+    weights::weigh(loss_ahead, loss_real, loss_weights);
     charge_both(
         header,
         rows,

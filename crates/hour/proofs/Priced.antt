@@ -19,7 +19,7 @@ use Rattle.rows.specs.declared.Transaction.{Transaction}
 use Rattle.exercise.specs.Price.{priceAt, pricesFrom, priceRefusal, pricesRefusal}
 use Rattle.exercise.proofs.Prices.{prices-within}
 use Rattle.tariff.specs.Tariff.{Prices, priceList}
-use Rattle.totals.specs.Given.{Listed}
+use Rattle.weights.specs.Given.{Listed}
 use Rattle.hour.specs.Given.{congestionCut, lossCut, Charged}
 
 -- the numbers from one place to another

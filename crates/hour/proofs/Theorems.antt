@@ -34,14 +34,16 @@ use Rattle.credits.specs.Paid.{summed, paidRefusal}
 use Rattle.credits.proofs.Paid.{cents-most, split-accepts, credits-cents}
 use Rattle.credits.proofs.Theorems.{fair-credits, credits-sum, nets-sum, nets-within}
 use Rattle.hour.specs.Charges.{participants, congestionPrices, lossPrices, congestionTotal, lossTotal, congestionOf, lossOf, surplus, shareOf, shares, congestionCharges, lossCharges, credits, nets}
-use Rattle.totals.specs.Given.{Tables, partIn, pathPartIn, sharesMost, hourMost}
+use Rattle.weights.specs.Given.{Tables}
+use Rattle.totals.specs.Given.{partIn, pathPartIn, sharesMost, hourMost}
 use Rattle.hour.specs.Given.{bothRefusal}
 use Rattle.hour.specs.Order.{outputs, hourRefusal, restRefusal}
 use Rattle.totals.specs.Share.{shareKw}
 use Rattle.hour.proofs.Paid.{shares-natural, the-nets}
 use Rattle.hour.proofs.Parts.{some-participant}
 use Rattle.hour.proofs.Total.{rows-passed, transactions-passed, sums-to}
-use Rattle.totals.proofs.Weights.{tables, part-range, path-part-range, share-range}
+use Rattle.weights.proofs.Weights.{tables}
+use Rattle.totals.proofs.Sizes.{part-range, path-part-range, share-range}
 
 -- ---- a participant's charge depends only on the prices and on its own rows and transactions
 

@@ -1,2 +1,2 @@
-pub mod Weights
+pub mod Sizes
 pub mod Unique

@@ -6,10 +6,6 @@ use Rattle.ints.proofs.Unique.{unique}
 use Rattle.totals.proofs.add_row.Reads as add-row
 use Rattle.totals.proofs.add_share.Reads as add-share
 use Rattle.totals.proofs.add_transaction.Reads as add-transaction
-use Rattle.totals.proofs.weigh.Reads as weigh
-
-pub weigh-unique : (κs : Lfts 3) (a : _) (r s : _) (e f : _) → weigh.Post κs a r e → weigh.Post κs a s f → e .1 .1 .0 .now ≡ f .1 .1 .0 .now
-weigh-unique κs a r s e f p q = unique p q
 
 pub add-row-unique : (κs : Lfts 3) (a : _) (r s : _) (e f : _) → add-row.Post κs a r e → add-row.Post κs a s f → e .1 .1 .1 .1 .0 .now ≡ f .1 .1 .1 .1 .0 .now
 add-row-unique κs a r s e f p q = unique p q

@@ -15,7 +15,7 @@ use Rattle.rows.proofs.Answers.{row-next, row-first, row-some}
 use Rattle.totals.specs.Given.{partIn, Totals, sharesMost, rowsMost}
 use Rattle.totals.specs.Share.{shareKw}
 use Rattle.hour.proofs.Decoded.{row-is, row-passed}
-use Rattle.totals.proofs.Weights.{part-range, share-range}
+use Rattle.totals.proofs.Sizes.{part-range, share-range}
 use Rattle.charging.proofs.charge_rows.Statement.{statement}
 use Rattle.charging.proofs.charge_rows.Tie as tie
 

@@ -14,7 +14,7 @@ use Rattle.rows.specs.declared.Transaction.{Transaction}
 use Rattle.rows.proofs.Answers.{transaction-next, transaction-first, transaction-some}
 use Rattle.totals.specs.Given.{pathPartIn, Totals, rowsMost, hourMost}
 use Rattle.hour.proofs.Decoded.{transaction-is, transaction-passed}
-use Rattle.totals.proofs.Weights.{path-part-range}
+use Rattle.totals.proofs.Sizes.{path-part-range}
 use Rattle.charging.proofs.charge_transactions.Statement.{statement}
 use Rattle.charging.proofs.charge_transactions.Tie as tie
 

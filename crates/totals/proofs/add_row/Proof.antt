@@ -9,7 +9,8 @@ use Rattle.ints.proofs.Sizes.{w-add, w-fits}
 use Rattle.rows.proofs.Tested.{interval-below}
 use Rattle.tariff.specs.Parts.{sign}
 use Rattle.totals.specs.Given.{partIn}
-use Rattle.totals.proofs.Weights.{weight-range, part-range}
+use Rattle.weights.proofs.Weights.{weight-range}
+use Rattle.totals.proofs.Sizes.{part-range}
 use Rattle.totals.proofs.add_row.Statement.{statement}
 use Rattle.totals.proofs.add_row.Tie as tie
 use denote.Ref.{now}

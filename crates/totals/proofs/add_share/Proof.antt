@@ -6,7 +6,7 @@ use lib.ListN.{set}
 use borrow.Author.Needs.{needs}
 use Rattle.ints.specs.Table.{_at_}
 use Rattle.ints.proofs.Sizes.{w-add, w-fits}
-use Rattle.totals.proofs.Weights.{share-range}
+use Rattle.totals.proofs.Sizes.{share-range}
 use Rattle.totals.proofs.add_share.Statement.{statement}
 use Rattle.totals.proofs.add_share.Tie as tie
 

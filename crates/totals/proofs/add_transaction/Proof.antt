@@ -8,7 +8,8 @@ use Rattle.ints.specs.Table.{_at_}
 use Rattle.ints.proofs.Sizes.{w-add, w-fits}
 use Rattle.rows.proofs.Tested.{interval-below}
 use Rattle.totals.specs.Given.{pathPartIn}
-use Rattle.totals.proofs.Weights.{weight-range, path-part-range}
+use Rattle.weights.proofs.Weights.{weight-range}
+use Rattle.totals.proofs.Sizes.{path-part-range}
 use Rattle.totals.proofs.add_transaction.Statement.{statement}
 use Rattle.totals.proofs.add_transaction.Tie as tie
 use denote.Ref.{now}

@@ -1,4 +1,4 @@
--- `totals::take_interval` meets its contract. Assumes nothing.
+-- `weights::take_interval` meets its contract. Assumes nothing.
 use mathlib.Core.Path.{ap₂}
 use Prim.Native.Nat.{_-_, _≤_}
 use native.Mathlib.Omega.{arith}
@@ -8,8 +8,8 @@ use borrow.Author.Needs.{needs}
 use Rattle.ints.specs.Table.{_at_}
 use Rattle.ints.proofs.Sizes.{w-read, w-sub, w-fits}
 use Rattle.ints.proofs.Tables.{InPlace, place-start, place-next, place-done}
-use Rattle.totals.proofs.take_interval.Statement.{statement}
-use Rattle.totals.proofs.take_interval.Tie as tie
+use Rattle.weights.proofs.take_interval.Statement.{statement}
+use Rattle.weights.proofs.take_interval.Tie as tie
 
 abbrev Inv-loop : tie.InvT-loop
 Inv-loop prices weights₀ l₀ weights l = (l ≤ length weights₀) × InPlace (pos 0) (λ i. weights₀ at i -ℤ prices at i) weights₀ l weights

@@ -1,8 +1,8 @@
--- A day-ahead weight as it comes about, so many intervals taken back; and the sizes of weights and parts. Assumes nothing.
+-- A day-ahead weight as it comes about, so many intervals taken back; and the sizes of weights. Assumes nothing.
 use mathlib.Core.Path.{_≡_, refl, sym, ap, ap₂, _∙_, subst}
 use mathlib.Core.Bool.{Bool, true, false}
 use mathlib.Core.List.{List}
-use Prim.Native.Nat.{ℕ, zero, suc, _+_, _*_, _≤_, _<_}
+use Prim.Native.Nat.{ℕ, _+_, _*_, _≤_, _<_}
 use native.Mathlib.Omega.{arith}
 use lib.Dec.{eqb, lit≤}
 use lib.IntN.{ℤ, pos, negℤ, _+ℤ_, _-ℤ_, +ℤ-idr, +ℤ-assoc, negℤ-+ℤ}
@@ -13,20 +13,15 @@ use Rattle.ints.specs.Range.{InRange}
 use Rattle.ints.specs.Refusal.{pick}
 use Rattle.ints.specs.Sum.{sumTo}
 use Rattle.ints.specs.Table.{_at_, tab}
-use Rattle.ints.proofs.Adding.{only-within}
 use Rattle.ints.proofs.Ranges.{drop-range, cut-range, tab-range, room}
 use Rattle.ints.proofs.Sizes.{w-sub, w-mul, w-lit, w-up}
 use Rattle.ints.proofs.Sums.{sumTo-zero, sumTo-next, sumTo-abs}
 use Rattle.ints.proofs.Tables.{length-tab, getD-tab, tab-ext}
 use Rattle.units.specs.Units.{wholeHour}
-use Rattle.rows.specs.Tested.{RowTested, TransactionTested}
-use Rattle.rows.specs.declared.Row.{Row}
-use Rattle.rows.specs.declared.Transaction.{Transaction}
 use Rattle.exercise.specs.Price.{intervalOf}
-use Rattle.tariff.specs.Parts.{sign, aheadWeight, weightIn}
+use Rattle.tariff.specs.Parts.{aheadWeight, weightIn}
 use Rattle.tariff.specs.Tariff.{Prices, priceList, P, C}
-use Rattle.totals.specs.Given.{Listed, Tables, partIn, pathPartIn}
-use Rattle.totals.specs.Share.{isShare, shareKw}
+use Rattle.weights.specs.Given.{Listed, Tables}
 
 -- ---- of a price list: what a day-ahead kW counts when the first k intervals are taken back
 
@@ -99,28 +94,3 @@ module _ {locations : ℕ} {weights real : List ℤ} (h : Tables locations weigh
       by : (t : Bool) → Within (pick t (weights at l) (drop (interval * locations) real at l)) 120000000
       by true = h .weights-range .each l
       by false = w-up (drop-range (interval * locations) (h .real-range) .each l) (lit≤ tt)
-
-  sign-range : (kind : ℕ) → kind < 6 → Within (sign kind) 1
-  sign-range zero h = w-lit tt
-  sign-range (suc zero) h = w-lit tt
-  sign-range (suc (suc zero)) h = w-lit tt
-  sign-range (suc (suc (suc zero))) h = w-lit tt
-  sign-range (suc (suc (suc (suc zero)))) h = w-lit tt
-  sign-range (suc (suc (suc (suc (suc zero))))) h = w-lit tt
-  sign-range (suc (suc (suc (suc (suc (suc n)))))) h = absurd (omega arith)
-
-  -- so a row's part is at most 2,400,000,000,000,000, and a transaction's twice that
-  pub part-range : {participants : ℕ} {r : Row} → RowTested participants locations r → Within (partIn weights real locations r) 2400000000000000
-  part-range {r = r} t =
-      let kw : Within (pos (r .kw .0)) 20000000 = record { within = t .kw } in
-      w-up (w-mul (w-mul (sign-range (r .kind) (t .kind)) kw) (weight-range (r .market) (r .interval) (r .location))) (lit≤ tt)
-
-  pub path-part-range : {participants : ℕ} {t : Transaction} → TransactionTested participants locations t → Within (pathPartIn weights real locations t) 4800000000000000
-  path-part-range {t = t} q =
-      let kw : Within (pos (t .kw .0)) 20000000 = record { within = q .kw } in
-      w-mul kw (w-sub (weight-range (t .market) (t .interval) (t .sink)) (weight-range (t .market) (t .interval) (t .source)))
-
--- ---- a share grows by at most 20,000,000 kW
-
-pub share-range : (r : Row) → r .kw .0 ≤ 20000000 → Within (shareKw r) 20000000
-share-range r h = only-within (isShare (r .market) (r .kind)) (record { within = h })

@@ -1,4 +1,4 @@
--- `totals::weigh` meets its contract. Assumes nothing.
+-- `weights::weigh` meets its contract. Assumes nothing.
 use mathlib.Core.Path.{_≡_, sym, ap, _∙_, subst}
 use mathlib.Core.List.{List}
 use Prim.Native.Nat.{ℕ, _-_, _≤_, _<_}
@@ -12,10 +12,10 @@ use Rattle.ints.proofs.Tables.{length-tab}
 use Rattle.exercise.specs.Price.{intervalOf}
 use Rattle.tariff.specs.Parts.{aheadWeight}
 use Rattle.tariff.specs.Tariff.{priceList}
-use Rattle.totals.specs.Given.{Listed}
-use Rattle.totals.proofs.Weights.{sofar, weights-none, stretch-length, stretch-range, weights-next, weights-all, weights-range}
-use Rattle.totals.proofs.weigh.Statement.{statement}
-use Rattle.totals.proofs.weigh.Tie as tie
+use Rattle.weights.specs.Given.{Listed}
+use Rattle.weights.proofs.Weights.{sofar, weights-none, stretch-length, stretch-range, weights-next, weights-all, weights-range}
+use Rattle.weights.proofs.weigh.Statement.{statement}
+use Rattle.weights.proofs.weigh.Tie as tie
 
 abbrev Inv-loop : tie.InvT-loop
 Inv-loop ahead real weights₀ k₀ weights k = (k ≤ 12) × Listed (length weights₀) ahead real × (weights ≡ tab (sofar (priceList (length weights₀) ahead real) k) (length weights₀))

@@ -1,4 +1,4 @@
--- `totals::weight_of` meets its contract. Assumes nothing.
+-- `weights::weight_of` meets its contract. Assumes nothing.
 use mathlib.Core.Path.{_≡_, ap, _∙_}
 use mathlib.Core.List.{List}
 use Prim.Native.Nat.{_*_}
@@ -11,8 +11,8 @@ use borrow.Author.Tests.{eq-eqb, ne-eqb}
 use Rattle.ints.specs.Table.{_at_}
 use Rattle.ints.proofs.Ranges.{room}
 use Rattle.exercise.specs.Price.{intervalOf}
-use Rattle.totals.proofs.weight_of.Statement.{statement}
-use Rattle.totals.proofs.weight_of.Tie as tie
+use Rattle.weights.proofs.weight_of.Statement.{statement}
+use Rattle.weights.proofs.weight_of.Tie as tie
 
 stretch-length : (s : tie.Start) → length (intervalOf (s .args .real .now) (s .args .locations) (s .args .interval)) ≡ s .args .locations
 stretch-length s = simp (length-take, length-drop) (omega (arith, room (s .args .interval) 12 (s .args .locations) (s .pre .0), s .pre .2 .real-length))

@@ -1,4 +1,4 @@
--- `totals::put_ahead` meets its contract. Assumes nothing.
+-- `weights::put_ahead` meets its contract. Assumes nothing.
 use mathlib.Core.Path.{_≡_, sym, ap, _∙_, subst}
 use Prim.Native.Nat.{_-_, _≤_}
 use native.Mathlib.Omega.{arith}
@@ -10,8 +10,8 @@ use Rattle.ints.specs.Table.{_at_, tab}
 use Rattle.ints.proofs.Sizes.{w-read}
 use Rattle.ints.proofs.Tables.{tab-none, tab-store, tab-done}
 use Rattle.units.specs.Units.{wholeHour}
-use Rattle.totals.proofs.put_ahead.Statement.{statement}
-use Rattle.totals.proofs.put_ahead.Tie as tie
+use Rattle.weights.proofs.put_ahead.Statement.{statement}
+use Rattle.weights.proofs.put_ahead.Tie as tie
 
 abbrev Inv-loop : tie.InvT-loop
 Inv-loop ahead weights₀ l₀ weights l = (l ≤ length ahead) × (length weights ≡ length weights₀) × (take l weights ≡ tab (λ i. wholeHour (ahead at i)) l)
