@@ -1,16 +1,15 @@
--- Rounding in place, copying, and the surplus split: what the functions need. Assumes nothing.
+-- Rounding in place, and the surplus split: what the functions need. Assumes nothing.
 use mathlib.Core.Path.{_≡_, refl, sym, ap, ap₂, _∙_, subst}
 use mathlib.Core.Logic.{_≢_, ⊎-elim}
 use mathlib.Core.Bool.{Bool, true, false, _||_, _&&_}
-use mathlib.Core.List.{List, [], _∷_, _++_}
+use mathlib.Core.List.{List, [], _∷_}
 use Prim.Native.Nat.{ℕ, _+_, _≤_, _<_}
 use native.Mathlib.Nat.{eq-or-lt-of-le}
-use native.Mathlib.Numerals.{add-one}
 use native.Mathlib.Omega.{arith}
 use lib.Dec.{ltb, eqb}
 use lib.IntN.{ℤ, pos, negℤ, natAbs}
 use lib.ListN.{length, take, set}
-use lib.Seq.{take-all, take-suc, take-suc-set, getD-set-other}
+use lib.Seq.{getD-set-other}
 use lib.Signed.{leZ, natAbs-le}
 use mir.Syntax.{w64}
 use mir.Val.{SFits}
@@ -75,19 +74,6 @@ module _ (exact list : List ℤ) (i : ℕ) (r : Rounds exact i list) where
   rounds-done h s =
       let is : list ≡ rounded exact = tab-done (λ p. centsOf (exact at p)) list i h (r .front) ∙ ap (tab (λ p. centsOf (exact at p))) s in
       (is, range-at list mostCents (λ p l. record { within = omega (arith, ap (λ (l : List ℤ). natAbs (l at p)) is ∙ ap natAbs (rounded-at exact p (omega arith)), cents-most (exact at p) (r .known p (omega arith))) }))
-
--- ---- copying: one number more
-
-pub copied : (from to : List ℤ) (i : ℕ) (z : ℤ) → i < length from → i < length to → z ≡ from at i → take i to ≡ take i from → take (i + 1) (set to i z) ≡ take (i + 1) from
-copied from to i z f t e h =
-    ap (λ (k : ℕ). take k (set to i z)) (add-one i)
-    ∙ take-suc-set to i z t
-    ∙ ap₂ (λ (l : List ℤ) (x : ℤ). l ++ (x ∷ [])) h e
-    ∙ sym (take-suc from i (pos 0) f)
-    ∙ ap (λ (k : ℕ). take k from) (sym (add-one i))
-
-pub copied-all : (from to : List ℤ) (i : ℕ) → length from ≡ i → length to ≡ i → take i to ≡ take i from → to ≡ from
-copied-all from to i f t h = sym (take-all i to (omega arith)) ∙ h ∙ take-all i from (omega arith)
 
 -- ---- the order, from the split's
 

@@ -47,26 +47,15 @@ fn net_of(congestion: Cents, loss: Cents, credit: Cents) -> Cents
     Cents(congestion.0 + loss.0 - credit.0)
 }
 
-// The charges and the net into the lists of the hour.
-fn write_out(
-    charges: &[i64],
-    losses: &[i64],
-    credit: &[i64],
-    congestion: &mut [i64],
-    loss: &mut [i64],
-    net: &mut [i64],
-)
-    requires { ⌜ (length (now losses) ≡ length (now charges)) × (length (now credit) ≡ length (now charges)) × (length (now congestion) ≡ length (now charges)) × (length (now loss) ≡ length (now charges)) × (length (now net) ≡ length (now charges)) ⌝ }
+// Each participant's net.
+fn write_nets(charges: &[i64], losses: &[i64], credit: &[i64], net: &mut [i64])
+    requires { ⌜ (length (now losses) ≡ length (now charges)) × (length (now credit) ≡ length (now charges)) × (length (now net) ≡ length (now charges)) ⌝ }
     requires { ⌜ InRange (now charges) mostCents × InRange (now losses) mostCents × InRange (now credit) mostCents ⌝ }
-    ensures { λ _. ⌜ now (congestion .exit) ≡ now (charges .entry) ⌝ }
-    ensures { λ _. ⌜ now (loss .exit) ≡ now (losses .entry) ⌝ }
     ensures { λ _. ⌜ now (net .exit) ≡ netted (now (charges .entry)) (now (losses .entry)) (now (credit .entry)) ⌝ }
 {
     let mut i: usize = 0;
     while i < charges.len() {
         let cents = net_of(Cents(charges[i]), Cents(losses[i]), Cents(credit[i])).0;
-        congestion[i] = charges[i];
-        loss[i] = losses[i];
         net[i] = cents;
         i += 1;
     }
@@ -97,6 +86,8 @@ pub fn pay(
     if refusal != 0 {
         return refusal;
     }
-    write_out(charges, losses, credit, congestion, loss, net);
+    ints::copy(charges, congestion);
+    ints::copy(losses, loss);
+    write_nets(charges, losses, credit, net);
     0
 }

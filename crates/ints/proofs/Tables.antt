@@ -53,6 +53,9 @@ tab-ext {A} f g (suc n) h = ap₂ (λ (t : List A) (x : A). t ++ (x ∷ [])) (ta
 pub tab-self : {A : Type 0} (d : A) (l : List A) → l ≡ tab (λ i. getD l i d) (length l)
 tab-self d l = ext-getD d l (tab (λ i. getD l i d) (length l)) (sym (length-tab (λ i. getD l i d) (length l))) (λ i h. sym (getD-tab (λ i. getD l i d) d (length l) i h))
 
+pub tab-copy : {A : Type 0} (d : A) (l : List A) {n : ℕ} → n ≡ length l → tab (λ i. getD l i d) n ≡ l
+tab-copy d l e = ap (tab (λ i. getD l i d)) e ∙ sym (tab-self d l)
+
 -- a loop that changes the numbers of a list where they are: the first i are f's, and the others are as they were
 module _ {A : Type 0} (d : A) (f : ℕ → A) (before : List A) where
   pub record InPlace (i : ℕ) (l : List A) : Type 0 where

@@ -7,6 +7,7 @@ use lib.IntN.{ℤ}
 use contract.Lifetimes.{Lfts}
 use Rattle.ints.proofs.all_between.Reads as all-between
 use Rattle.ints.proofs.clear.Reads as clear
+use Rattle.ints.proofs.copy.Reads as copy
 use Rattle.ints.proofs.is_between.Reads as is-between
 use Rattle.ints.proofs.negative.Reads as negative
 use Rattle.ints.proofs.size.Reads as size
@@ -37,3 +38,6 @@ all-between-unique κs a r s e f p q = unique p q
 
 pub clear-unique : (κs : Lfts 1) (a : _) (r s : _) (e f : _) → clear.Post κs a r e → clear.Post κs a s f → e .0 .now ≡ f .0 .now
 clear-unique κs a r s e f p q = unique p q
+
+pub copy-unique : (κs : Lfts 2) (a : _) (r s : _) (e f : _) → copy.Post κs a r e → copy.Post κs a s f → e .1 .0 .now ≡ f .1 .0 .now
+copy-unique κs a r s e f p q = unique p q

@@ -1,11 +1,11 @@
-// A number by its size and its sign; numbers in a range; a list of zeros.
+// A number by its size and its sign; numbers in a range; lists cleared and copied.
 ghost use mathlib.Core.Path.{_≡_};
 ghost use mathlib.Core.Bool.{_&&_};
-ghost use Prim.Native.Nat.{_<_};
+ghost use Prim.Native.Nat.{_≤_, _<_};
 ghost use lib.IntN.{pos, natAbs};
 ghost use lib.ListN.{length};
 ghost use Rattle.ints.specs.Number.{below0, signed, between};
-ghost use Rattle.ints.specs.Table.{tab, all};
+ghost use Rattle.ints.specs.Table.{_at_, tab, all};
 
 // The size of a number, of the least one too.
 pub fn size(x: i64) -> u64
@@ -74,6 +74,18 @@ pub fn clear(list: &mut [i64])
     let mut i: usize = 0;
     while i < list.len() {
         list[i] = 0;
+        i += 1;
+    }
+}
+
+// A list's front, copied into another list.
+pub fn copy(from: &[i64], to: &mut [i64])
+    requires { ⌜ length (now to) ≤ length (now from) ⌝ }
+    ensures { λ _. ⌜ now (to .exit) ≡ tab (λ i. now (from .entry) at i) (length (now (to .entry))) ⌝ }
+{
+    let mut i: usize = 0;
+    while i < to.len() {
+        to[i] = from[i];
         i += 1;
     }
 }

@@ -4,7 +4,7 @@ use mathlib.Core.Logic.{_≢_}
 use mathlib.Core.List.{List}
 use Prim.Native.Nat.{ℕ}
 use native.Mathlib.Omega.{arith}
-use lib.IntN.{ℤ}
+use lib.IntN.{ℤ, pos}
 use lib.ListN.{length}
 use mir.Syntax.{w64}
 use mir.Val.{toZ, ofZ}
@@ -14,6 +14,7 @@ use Rattle.ints.specs.Range.{InRange}
 use Rattle.ints.specs.Refusal.{lent}
 use Rattle.ints.proofs.Ranges.{range-up}
 use Rattle.ints.proofs.Refusals.{lent-result, kept}
+use Rattle.ints.proofs.Tables.{tab-copy}
 use Rattle.split.specs.Split.{parts, refusal}
 use Rattle.split.proofs.Laws.{length-parts}
 use Rattle.credits.specs.Facts.{mostCents}
@@ -93,17 +94,17 @@ returns-2 c = let a = c .before .before .before in (
     unwritten : (result list : List ℤ) → list ≡ lent (c .before .before .before .split .result) result list
     unwritten result list = kept (c .before .before .before .split .result) result list (c .before .before .before .split .result) (c .if2 .taken) refl .1
 
-write-out-requires : tie.Need-write-out-requires
-write-out-requires c κs = let e = c .before .before .before .before in
+copy-requires : tie.Need-copy-requires
+copy-requires c κs = search needs
+
+copy-requires-2 : tie.Need-copy-requires-2
+copy-requires-2 c κs = search needs
+
+write-nets-requires : tie.Need-write-nets-requires
+write-nets-requires c κs = let e = c .before .before .before .before .before .before .before .before in
     let a = e .before .before .before in
     let g = s a .pre in (
-      (
-        g .losses-each ∙ sym (g .charges-each),
-        credit-each a (e .if2 .left) ∙ sym (g .charges-each),
-        g .congestion-each ∙ sym (g .charges-each),
-        g .loss-each ∙ sym (g .charges-each),
-        g .net-each ∙ sym (g .charges-each),
-      ),
+      (g .losses-each ∙ sym (g .charges-each), credit-each a (e .if2 .left) ∙ sym (g .charges-each), g .net-each ∙ sym (g .charges-each)),
       (g .charges-cents, g .losses-cents, credit-cents a (e .if2 .left)),
     )
 
@@ -120,11 +121,20 @@ same-length-6 : tie.Need-same-length-6
 same-length-6 c = search needs
 
 returns-3 : tie.Need-returns-3
-returns-3 c = let e = c .before .before .before .before .before .before .before .before in
+returns-3 c = let w = c .before in
+    let l = w .before .before .before .before in
+    let k = l .before .before .before in
+    let e = k .before .before in
     let a = e .before .before .before in
-    let w = c .before .before .before .write-out .ensures in (
+    let g = s a .pre in (
       sym (e .if2 .left) ∙ as-split a (e .before .if1 .left),
-      (w .0, (w .1 .0, (made a (e .if2 .left), w .1 .1 ∙ ap (netted (s a .args .charges .now) (s a .args .losses .now)) (made a (e .if2 .left))))),
+      (
+        k .copy .ensures ∙ tab-copy (pos 0) _ (g .congestion-each ∙ sym (g .charges-each)),
+        (
+          l .copy2 .ensures ∙ tab-copy (pos 0) _ (g .loss-each ∙ sym (g .losses-each)),
+          (made a (e .if2 .left), w .write-nets .ensures ∙ ap (netted (s a .args .charges .now) (s a .args .losses .now)) (made a (e .if2 .left))),
+        ),
+      ),
     )
 
 pub pay-spec : {M : Type 1} → statement M
@@ -137,7 +147,9 @@ pay-spec =
     returns
     same-length-2
     returns-2
-    write-out-requires
+    copy-requires
+    copy-requires-2
+    write-nets-requires
     same-length-3
     same-length-4
     same-length-5
