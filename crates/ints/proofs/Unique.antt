@@ -9,6 +9,7 @@ use Rattle.ints.proofs.all_between.Reads as all-between
 use Rattle.ints.proofs.is_between.Reads as is-between
 use Rattle.ints.proofs.negative.Reads as negative
 use Rattle.ints.proofs.size.Reads as size
+use Rattle.ints.proofs.sum.Reads as sum
 use Rattle.ints.proofs.wide.Reads as wide
 use Rattle.ints.proofs.with_sign.Reads as with-sign
 
@@ -33,3 +34,6 @@ is-between-unique a r s e f p q = unique p q
 
 pub all-between-unique : (κs : Lfts 1) (a : _) (r s : Bool) (e f : _) → all-between.Post κs a r e → all-between.Post κs a s f → r ≡ s
 all-between-unique κs a r s e f p q = unique p q
+
+pub sum-unique : (κs : Lfts 1) (a : _) (r s : ℤ) (e f : _) → sum.Post κs a r e → sum.Post κs a s f → r ≡ s
+sum-unique κs a r s e f p q = unique p q
