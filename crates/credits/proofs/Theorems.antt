@@ -5,7 +5,7 @@ use Prim.Native.Nat.{ℕ, _≤_}
 use lib.IntN.{ℤ, pos, negℤ, _+ℤ_, +ℤ-assoc, +ℤ-idr, +ℤ-invr}
 use lib.ListN.{length}
 use Rattle.ints.specs.Range.{InRange}
-use Rattle.ints.specs.Sum.{sumTo}
+use Rattle.ints.specs.Sum.{sumTo, sum}
 use Rattle.ints.specs.Table.{_at_}
 use Rattle.ints.proofs.Ranges.{tab-range}
 use Rattle.ints.proofs.Sizes.{w-add, w-sub}
@@ -16,7 +16,7 @@ use Rattle.split.specs.Split.{parts}
 use Rattle.split.proofs.Demand3.{fair}
 use Rattle.split.proofs.Laws.{length-parts}
 use Rattle.credits.specs.Facts.{mostCents, mostNet, Natural}
-use Rattle.credits.specs.Paid.{summed, paidRefusal, netAt, netted}
+use Rattle.credits.specs.Paid.{paidRefusal, netAt, netted}
 use Rattle.credits.proofs.Paid.{split-accepts}
 
 module _ (surplus : ℤ) (shares : List ℤ) (some : 1 ≤ length shares) (few : length shares ≤ 64) (natural : Natural shares) (accepts : paidRefusal surplus shares ≡ 0) where
@@ -24,19 +24,19 @@ module _ (surplus : ℤ) (shares : List ℤ) (some : 1 ≤ length shares) (few :
   pub fair-credits : Fair surplus shares (parts surplus shares)
   fair-credits = fair surplus shares (length shares) (split-accepts surplus shares (length shares) some few natural refl accepts)
 
-  pub credits-sum : summed (parts surplus shares) ≡ surplus
+  pub credits-sum : sum (parts surplus shares) ≡ surplus
   credits-sum = ap (sumTo (λ p. parts surplus shares at p)) (length-parts surplus shares) ∙ fair-credits .adds-up
 
 -- where loss charges and credits total the same cents, the nets total the congestion charges
-pub nets-sum : (congestion loss credit : List ℤ) → length loss ≡ length congestion → length credit ≡ length congestion → summed loss ≡ summed credit → summed (netted congestion loss credit) ≡ summed congestion
+pub nets-sum : (congestion loss credit : List ℤ) → length loss ≡ length congestion → length credit ≡ length congestion → sum loss ≡ sum credit → sum (netted congestion loss credit) ≡ sum congestion
 unfolding netted
 nets-sum congestion loss credit l k same =
     ap (sumTo (λ p. netted congestion loss credit at p)) (length-tab (netAt congestion loss credit) n)
     ∙ sumTo-ext (λ p. netted congestion loss credit at p) (netAt congestion loss credit) n (λ p h. getD-tab (netAt congestion loss credit) (pos 0) n p h)
     ∙ sumTo-plus (λ p. congestion at p +ℤ loss at p) (λ p. negℤ (credit at p)) n
     ∙ ap₂ _+ℤ_ (sumTo-plus (λ p. congestion at p) (λ p. loss at p) n) (sumTo-neg (λ p. credit at p) n)
-    ∙ ap₂ (λ (x y : ℤ). (summed congestion +ℤ x) +ℤ negℤ y) (ap (sumTo (λ p. loss at p)) (sym l) ∙ same) (ap (sumTo (λ p. credit at p)) (sym k))
-    ∙ cancelled (summed congestion) (summed credit)
+    ∙ ap₂ (λ (x y : ℤ). (sum congestion +ℤ x) +ℤ negℤ y) (ap (sumTo (λ p. loss at p)) (sym l) ∙ same) (ap (sumTo (λ p. credit at p)) (sym k))
+    ∙ cancelled (sum congestion) (sum credit)
   where
     n : ℕ
     n = length congestion

@@ -2,15 +2,10 @@
 -- `F.Post` is the `ensures` of F, over lifetimes, arguments, result and what the lent lists hold at exit.
 use mathlib.Core.Path.{_≡_, subst}
 use Prim.Native.Nat.{ℕ}
-use lib.IntN.{ℤ}
 use contract.Lifetimes.{Lfts}
 use Rattle.ints.proofs.Unique.{unique}
 use Rattle.credits.proofs.pay.Reads as pay
 use Rattle.credits.proofs.round.Reads as round
-use Rattle.credits.proofs.sum.Reads as sum
-
-pub sum-unique : (κs : Lfts 1) (a : _) (r s : ℤ) (e f : _) → sum.Post κs a r e → sum.Post κs a s f → r ≡ s
-sum-unique κs a r s e f p q = unique p q
 
 pub round-unique : (κs : Lfts 1) (a : _) (r s : _) (e f : _) → round.Post κs a r e → round.Post κs a s f → e .0 .now ≡ f .0 .now
 round-unique κs a r s e f p q = unique (p .0) (q .0)

@@ -2,11 +2,11 @@
 use mathlib.Core.Path.{_≡_, refl}
 use mathlib.Core.List.{List, [], _∷_}
 use lib.IntN.{ℤ, pos, negℤ}
-use Rattle.ints.specs.Sum.{sumN, sumTo}
+use Rattle.ints.specs.Sum.{sumN, sumTo, sum}
 use Rattle.ints.specs.Table.{tab, all}
 use Rattle.units.specs.Units.{centsOf}
 use Rattle.split.specs.Split.{total, cutDown, remainder, unitsLeft, before, place, part, parts}
-use Rattle.credits.specs.Paid.{rounded, summed, paidRefusal, netted}
+use Rattle.credits.specs.Paid.{rounded, paidRefusal, netted}
 
 -- the two participants' exact loss charges, in twelfths, and their load and exports in real time
 abbrev lost : List ℤ
@@ -19,7 +19,7 @@ pub loss-charges : rounded lost ≡ pos 1000 ∷ pos 390 ∷ []
 unfolding rounded tab centsOf
 loss-charges = refl
 
-pub surplus : summed (rounded lost) ≡ pos 1390
+pub surplus : sum (rounded lost) ≡ pos 1390
 unfolding rounded tab centsOf sumTo
 surplus = refl
 

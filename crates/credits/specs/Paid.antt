@@ -8,7 +8,6 @@ use lib.ListN.{length}
 use lib.Signed.{leZ}
 use Rattle.ints.specs.Number.{between}
 use Rattle.ints.specs.Refusal.{unless}
-use Rattle.ints.specs.Sum.{sumTo}
 use Rattle.ints.specs.Table.{_at_, tab, all}
 use Rattle.units.specs.Units.{centsOf}
 use Rattle.split.specs.Split.{total}
@@ -16,10 +15,6 @@ use Rattle.split.specs.Split.{total}
 -- "A participant's exact total is rounded once, to the nearest cent, halves away from zero": of twelfths, cents
 unfoldable pub rounded : List ℤ → List ℤ
 rounded exact = tab (λ p. centsOf (exact at p)) (length exact)
-
--- the sum of a list
-abbrev pub summed : List ℤ → ℤ
-summed cents = sumTo (λ p. cents at p) (length cents)
 
 -- a share that isn't above the most that there may be
 abbrev pub notAbove : ℕ → ℤ → Bool

@@ -1,14 +1,14 @@
 // From exact charges in twelfths to billed cents (document 01, "Charges" and "Surplus and credits").
 ghost use mathlib.Core.Path.{_≡_};
-ghost use Prim.Native.Nat.{_≤_};
 ghost use lib.ListN.{length};
 ghost use lib.IntN.{_+ℤ_, _-ℤ_};
 ghost use Rattle.ints.specs.Number.{Within};
 ghost use Rattle.ints.specs.Range.{InRange};
 ghost use Rattle.ints.specs.Refusal.{lent};
+ghost use Rattle.ints.specs.Sum.{sum};
 ghost use Rattle.split.specs.Split.{parts};
-ghost use Rattle.credits.specs.Facts.{Lists, mostCents, mostNet};
-ghost use Rattle.credits.specs.Paid.{rounded, summed, paidRefusal, netted};
+ghost use Rattle.credits.specs.Facts.{Lists, mostCents};
+ghost use Rattle.credits.specs.Paid.{rounded, paidRefusal, netted};
 use units::Cents;
 use units::Twelfths;
 
@@ -23,20 +23,6 @@ pub fn round(list: &mut [i64])
         list[i] = cents;
         i += 1;
     }
-}
-
-// The sum of a list of cents.
-pub fn sum(list: &[i64]) -> i64
-    requires { ⌜ InRange (now list) mostNet × (length (now list) ≤ 64) ⌝ }
-    ensures { λ r. ⌜ r ≡ summed (now (list .entry)) ⌝ }
-{
-    let mut total: i64 = 0;
-    let mut i: usize = 0;
-    while i < list.len() {
-        total += list[i];
-        i += 1;
-    }
-    total
 }
 
 // The charges less the credit.
@@ -72,13 +58,13 @@ pub fn pay(
     net: &mut [i64],
 ) -> u32
     requires { ⌜ Lists (now charges) (now losses) (now shares) (now congestion) (now loss) (now credit) (now net) ⌝ }
-    ensures { λ r. ⌜ r ≡ paidRefusal (summed (now (losses .entry))) (now (shares .entry)) ⌝ }
+    ensures { λ r. ⌜ r ≡ paidRefusal (sum (now (losses .entry))) (now (shares .entry)) ⌝ }
     ensures { λ r. ⌜ now (congestion .exit) ≡ lent r (now (charges .entry)) (now (congestion .entry)) ⌝ }
     ensures { λ r. ⌜ now (loss .exit) ≡ lent r (now (losses .entry)) (now (loss .entry)) ⌝ }
-    ensures { λ r. ⌜ now (credit .exit) ≡ lent r (parts (summed (now (losses .entry))) (now (shares .entry))) (now (credit .entry)) ⌝ }
-    ensures { λ r. ⌜ now (net .exit) ≡ lent r (netted (now (charges .entry)) (now (losses .entry)) (parts (summed (now (losses .entry))) (now (shares .entry)))) (now (net .entry)) ⌝ }
+    ensures { λ r. ⌜ now (credit .exit) ≡ lent r (parts (sum (now (losses .entry))) (now (shares .entry))) (now (credit .entry)) ⌝ }
+    ensures { λ r. ⌜ now (net .exit) ≡ lent r (netted (now (charges .entry)) (now (losses .entry)) (parts (sum (now (losses .entry))) (now (shares .entry)))) (now (net .entry)) ⌝ }
 {
-    let surplus = sum(losses);
+    let surplus = ints::sum(losses);
     let refusal = splitting::split(surplus, shares, credit);
     if refusal == 2 {
         return 10;

@@ -11,7 +11,7 @@ use lib.Seq.{length-take-le, getD-take, ext-getD}
 use lib.Signed.{leZ}
 use borrow.Author.Tests.{le-leb}
 use Rattle.ints.specs.Every.{owed}
-use Rattle.ints.specs.Sum.{Σℤ, sumTo, only}
+use Rattle.ints.specs.Sum.{Σℤ, sumTo, only, sum}
 use Rattle.ints.specs.Table.{_at_, tab}
 use Rattle.ints.proofs.Gather.{every-tab}
 use Rattle.ints.proofs.Sums.{sumTo-ext}
@@ -20,7 +20,7 @@ use Rattle.units.specs.Units.{centsOf}
 use Rattle.split.specs.Split.{parts}
 use Rattle.exercise.specs.File.{rows, transactions}
 use Rattle.credits.specs.Facts.{Natural}
-use Rattle.credits.specs.Paid.{rounded, summed, paidRefusal, netAt, netted}
+use Rattle.credits.specs.Paid.{rounded, paidRefusal, netAt, netted}
 use Rattle.totals.specs.Share.{isShare, shareKw}
 use Rattle.hour.specs.Charges.{participants, congestionPrices, lossPrices, congestionTotal, lossTotal, congestionOf, lossOf, surplus, shareOf, shares, congestionCharges, lossCharges, credits, nets}
 use Rattle.hour.specs.Given.{Charged, Shared}
@@ -95,7 +95,7 @@ shares-natural file = every-tab (λ z. leZ (pos 0) z ≡ true) (shareOf file) (p
 
 module _ (file : List ℕ) where
   -- the sum of the loss charges
-  pub the-surplus : (lost : List ℤ) → rounded lost ≡ lossCharges file → summed (rounded lost) ≡ surplus file
+  pub the-surplus : (lost : List ℤ) → rounded lost ≡ lossCharges file → sum (rounded lost) ≡ surplus file
   unfolding lossCharges surplus
   the-surplus lost e =
       ap (λ (xs : List ℤ). sumTo (λ p. xs at p) (length xs)) e
@@ -112,14 +112,14 @@ module _ (file : List ℕ) where
 
   -- what is paid out
   module _ (lost given : List ℤ) (e : rounded lost ≡ lossCharges file) (s : given ≡ shares file) where
-    pub the-refusal : paidRefusal (summed (rounded lost)) given ≡ paidRefusal (surplus file) (shares file)
+    pub the-refusal : paidRefusal (sum (rounded lost)) given ≡ paidRefusal (surplus file) (shares file)
     the-refusal = ap₂ paidRefusal (the-surplus lost e) s
 
-    pub the-credits : parts (summed (rounded lost)) given ≡ credits file
+    pub the-credits : parts (sum (rounded lost)) given ≡ credits file
     unfolding credits
     the-credits = ap₂ parts (the-surplus lost e) s
 
-    pub net-lists : (charged : List ℤ) → rounded charged ≡ congestionCharges file → netted (rounded charged) (rounded lost) (parts (summed (rounded lost)) given) ≡ nets file
+    pub net-lists : (charged : List ℤ) → rounded charged ≡ congestionCharges file → netted (rounded charged) (rounded lost) (parts (sum (rounded lost)) given) ≡ nets file
     net-lists charged f =
-        ap₂ (λ (c l : List ℤ). netted c l (parts (summed (rounded lost)) given)) f e
+        ap₂ (λ (c l : List ℤ). netted c l (parts (sum (rounded lost)) given)) f e
         ∙ ap (netted (congestionCharges file) (lossCharges file)) the-credits ∙ the-nets

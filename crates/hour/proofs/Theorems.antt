@@ -8,7 +8,7 @@ use lib.ListN.{length}
 use Rattle.ints.specs.Every.{owed}
 use Rattle.ints.specs.Number.{Within}
 use Rattle.ints.specs.Range.{InRange}
-use Rattle.ints.specs.Sum.{sumTo}
+use Rattle.ints.specs.Sum.{sumTo, sum}
 use Rattle.ints.specs.Table.{_at_, tab}
 use Rattle.ints.proofs.Adding.{owed-within}
 use Rattle.ints.proofs.Ranges.{tab-range}
@@ -30,7 +30,7 @@ use Rattle.tariff.specs.Parts.{aheadWeight, ownRows, ownTransactions}
 use Rattle.tariff.specs.Tariff.{Prices, priceList, charge}
 use Rattle.tariff.proofs.Own.{own-only}
 use Rattle.credits.specs.Facts.{mostCents, mostNet}
-use Rattle.credits.specs.Paid.{summed, paidRefusal}
+use Rattle.credits.specs.Paid.{paidRefusal}
 use Rattle.credits.proofs.Paid.{cents-most, split-accepts, credits-cents}
 use Rattle.credits.proofs.Theorems.{fair-credits, credits-sum, nets-sum, nets-within}
 use Rattle.hour.specs.Charges.{participants, congestionPrices, lossPrices, congestionTotal, lossTotal, congestionOf, lossOf, surplus, shareOf, shares, congestionCharges, lossCharges, credits, nets}
@@ -107,22 +107,22 @@ module _ (file : List ℕ) (congestion loss credit net : ℕ) (accepts : hourRef
   nets-length = length-tab _ count
 
   -- their totals
-  credits-total : summed (credits file) ≡ surplus file
+  credits-total : sum (credits file) ≡ surplus file
   unfolding credits
   credits-total = credits-sum (surplus file) (shares file) some few (shares-natural file) (passes .2)
 
-  losses-total : summed (lossCharges file) ≡ surplus file
+  losses-total : sum (lossCharges file) ≡ surplus file
   unfolding lossCharges surplus
   losses-total = ap (sumTo (λ p. lossCharges file at p)) losses-length ∙ sumTo-ext _ _ count (λ p l. getD-tab (lossOf file) (pos 0) count p l)
 
   -- "Then loss charges and credits total the same cents."
-  pub same-cents : summed (lossCharges file) ≡ summed (credits file)
+  pub same-cents : sum (lossCharges file) ≡ sum (credits file)
   same-cents = losses-total ∙ sym credits-total
 
   -- so the nets total the congestion charges
-  pub net-total : summed (nets file) ≡ summed (congestionCharges file)
+  pub net-total : sum (nets file) ≡ sum (congestionCharges file)
   net-total =
-      ap summed (sym (the-nets file))
+      ap sum (sym (the-nets file))
       ∙ nets-sum (congestionCharges file) (lossCharges file) (credits file) (losses-length ∙ sym congestions-length) (credits-length ∙ sym congestions-length) same-cents
 
   -- ---- nothing overflows 64 bits: the bounds, from the file's own limits

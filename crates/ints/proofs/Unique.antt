@@ -11,6 +11,7 @@ use Rattle.ints.proofs.copy.Reads as copy
 use Rattle.ints.proofs.is_between.Reads as is-between
 use Rattle.ints.proofs.negative.Reads as negative
 use Rattle.ints.proofs.size.Reads as size
+use Rattle.ints.proofs.sum.Reads as sum
 use Rattle.ints.proofs.wide.Reads as wide
 use Rattle.ints.proofs.with_sign.Reads as with-sign
 
@@ -41,3 +42,6 @@ clear-unique κs a r s e f p q = unique p q
 
 pub copy-unique : (κs : Lfts 2) (a : _) (r s : _) (e f : _) → copy.Post κs a r e → copy.Post κs a s f → e .1 .0 .now ≡ f .1 .0 .now
 copy-unique κs a r s e f p q = unique p q
+
+pub sum-unique : (κs : Lfts 1) (a : _) (r s : ℤ) (e f : _) → sum.Post κs a r e → sum.Post κs a s f → r ≡ s
+sum-unique κs a r s e f p q = unique p q

@@ -3,13 +3,19 @@ use mathlib.Core.Bool.{Bool, true, false}
 use mathlib.Core.List.{List, [], _∷_}
 use Prim.Native.Nat.{ℕ, zero, suc, _+_}
 use lib.IntN.{ℤ, pos, _+ℤ_}
+use lib.ListN.{length}
+use Rattle.ints.specs.Table.{_at_}
 
 -- f 0 + .. + f (n - 1)
 unfoldable pub sumTo : (ℕ → ℤ) → ℕ → ℤ
 sumTo f zero = pos 0
 sumTo f (suc n) = sumTo f n +ℤ f n
 
--- the same of naturals
+-- the sum of a list's numbers
+abbrev pub sum : List ℤ → ℤ
+sum list = sumTo (λ i. list at i) (length list)
+
+-- f 0 + .. + f (n - 1) of naturals
 unfoldable pub sumN : (ℕ → ℕ) → ℕ → ℕ
 sumN f zero = 0
 sumN f (suc n) = sumN f n + f n

@@ -1,10 +1,12 @@
-// A number by its size and its sign; numbers in a range; lists cleared and copied.
+// A number by its size and its sign; numbers in a range; lists summed, cleared and copied.
 ghost use mathlib.Core.Path.{_≡_};
 ghost use mathlib.Core.Bool.{_&&_};
 ghost use Prim.Native.Nat.{_≤_, _<_};
 ghost use lib.IntN.{pos, natAbs};
 ghost use lib.ListN.{length};
 ghost use Rattle.ints.specs.Number.{below0, signed, between};
+ghost use Rattle.ints.specs.Range.{Short};
+ghost use Rattle.ints.specs.Sum.{sum as Sum·sum};
 ghost use Rattle.ints.specs.Table.{_at_, tab, all};
 
 // The size of a number, of the least one too.
@@ -65,6 +67,20 @@ pub fn all_between(list: &[i64], low: i64, high: i64) -> bool
         i += 1;
     }
     passed
+}
+
+// The sum of a list.
+pub fn sum(list: &[i64]) -> i64
+    requires { ⌜ Short (now list) ⌝ }
+    ensures { λ r. ⌜ r ≡ Sum·sum (now (list .entry)) ⌝ }
+{
+    let mut total: i64 = 0;
+    let mut i: usize = 0;
+    while i < list.len() {
+        total += list[i];
+        i += 1;
+    }
+    total
 }
 
 // Zeros throughout a list.

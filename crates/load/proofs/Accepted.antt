@@ -12,17 +12,19 @@ use lib.Seq.{getD-take, getD-drop}
 use lib.Signed.{leZ}
 use borrow.Author.Tests.{leb-true, eqb-true}
 use Rattle.ints.specs.Each.{allTo}
-use Rattle.ints.specs.Number.{Within, between}
+use Rattle.ints.specs.Number.{between}
+use Rattle.ints.specs.Range.{Short}
 use Rattle.ints.specs.Table.{_at_, all}
 use Rattle.ints.proofs.Bools.{and-true, not-both}
 use Rattle.ints.proofs.Eachs.{allTo-at}
+use Rattle.ints.proofs.Ranges.{range-at}
 use Rattle.ints.proofs.Refusals.{passed}
 use Rattle.ints.proofs.Tables.{all-at}
 use Rattle.ints.proofs.Tests.{between-size, between-natural}
 use Rattle.ints.proofs.Turns.{then-none}
 use Rattle.split.specs.Given.{Shares}
 use Rattle.split.specs.Split.{total}
-use Rattle.load.specs.Facts.{Short, Ranged, Areas, Contracts, Auction, Metered}
+use Rattle.load.specs.Facts.{Ranged, Areas, Contracts, Auction, Metered}
 use Rattle.load.specs.Load.{supplier, area, kw, count, partsOf, Given, buses}
 use Rattle.load.specs.Order.{counts, lengths, ranges, named, identities, areaTotals, tests}
 use Rattle.load.proofs.Handed.{minus-natural}
@@ -165,11 +167,10 @@ shares-in : {list : List ℤ} {k : ℕ} → Naturals list k → length list ≤ 
 shares-in s few h = record { few = few; most = λ i. omega (arith, s .most i); natural = s .natural }
 
 short-in : {list : List ℤ} → all (between (negℤ (pos 20000000)) (pos 20000000)) list ≡ true → length list ≤ 64 → Short list
-short-in {list} e few = record { few = few; small = λ i. here i (decLt i (length list)) }
-  where
-    here : (i : ℕ) → Dec (i < length list) → Within (list at i) 4000000000
-    here i (yes l) = record { within = omega (arith, between-size (list at i) 20000000 (all-at (between (negℤ (pos 20000000)) (pos 20000000)) (pos 0) list e i l)) }
-    here i (no l) = record { within = past list i 4000000000 l .1 }
+short-in {list} e few = record {
+  few = few;
+  each = range-at list 230584300921368 (λ i l. record { within = omega (arith, between-size (list at i) 20000000 (all-at (between (negℤ (pos 20000000)) (pos 20000000)) (pos 0) list e i l)) });
+}
 
 pub ranged-of : (x : ℤ) → between (pos 0) (pos 20000000) x ≡ true → Ranged x
 ranged-of x e = let r = between-natural x 20000000 e in record { natural = r .0; small = r .1 }

@@ -9,16 +9,17 @@ use lib.IntN.{ℤ, pos, natAbs}
 use lib.ListN.{length}
 use lib.Seq.{ext-getD}
 use Rattle.ints.specs.Number.{Within, between}
+use Rattle.ints.specs.Range.{Short}
 use Rattle.ints.specs.Refusal.{pick, unless}
+use Rattle.ints.specs.Sum.{sum}
 use Rattle.ints.specs.Table.{_at_, tab}
 use Rattle.ints.proofs.Sizes.{w-up}
 use Rattle.ints.proofs.Sums.{sumTo-abs}
 use Rattle.ints.proofs.Tables.{length-tab, getD-tab}
 use Rattle.split.specs.Split.{total, parts}
 use Rattle.split.proofs.Accepted.{fromTotal}
-use Rattle.load.specs.Load.{isMetered, sum, meteredLoad, busLoads}
+use Rattle.load.specs.Load.{isMetered, meteredLoad, busLoads}
 use Rattle.load.specs.Order.{meters}
-use Rattle.load.specs.Facts.{Short}
 
 module _ (metered : ℤ) (loads imports generation : List ℤ) where
   abbrev load : ℤ
@@ -51,8 +52,8 @@ module _ (metered : ℤ) (loads imports generation : List ℤ) where
     metered-inside f = ap₂ order e f
 
 -- a short list's sum is not large
-pub sum-within : {list : List ℤ} → Short list → Within (sum list) 256000000000
-sum-within {list} s = w-up {h = length list * 4000000000} (record { within = sumTo-abs (λ i. list at i) 4000000000 (length list) (λ i _. s .small i .within) }) (omega (arith, s .few))
+pub sum-within : {list : List ℤ} → Short list → Within (sum list) 14757395258967552
+sum-within {list} s = w-up {h = length list * 230584300921368} (record { within = sumTo-abs (λ i. list at i) 230584300921368 (length list) (λ i _. s .each .each i .within) }) (omega (arith, s .few))
 
 -- a list by its numbers
 pub tab-at : (list : List ℤ) → tab (λ i. list at i) (length list) ≡ list

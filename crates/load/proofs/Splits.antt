@@ -10,7 +10,9 @@ use lib.ListN.{length, drop, length-append, length-drop, List·getD-append}
 use lib.Seq.{length-take-le}
 use borrow.Author.Tests.{le-leb, le-ltb, eq-eqb}
 use Rattle.ints.specs.Number.{Within, below0, signed, between}
+use Rattle.ints.specs.Range.{Short}
 use Rattle.ints.specs.Refusal.{lent}
+use Rattle.ints.specs.Sum.{sum}
 use Rattle.ints.specs.Table.{_at_}
 use Rattle.ints.proofs.Counts.{sumN-term}
 use Rattle.ints.proofs.Eachs.{all-each}
@@ -23,13 +25,13 @@ use Rattle.split.specs.Split.{share, total, part, parts, refusal}
 use Rattle.split.specs.Given.{Shares}
 use Rattle.split.proofs.Accepted.{accepted, fromTotal, with-total}
 use Rattle.split.proofs.Laws.{length-parts, part-sum, no-size}
-use Rattle.load.specs.Load.{sum, partsOf}
+use Rattle.load.specs.Load.{partsOf}
 use Rattle.load.specs.Table.{InRange}
-use Rattle.load.specs.Facts.{Short, Splits, Portion, Ranged}
+use Rattle.load.specs.Facts.{Splits, Portion, Ranged}
 
 -- the sum of shares is their total
 pub short-of : {shares : List ℤ} → Shares shares → Short shares
-short-of s = record { few = s .few; small = λ i. record { within = s .most i } }
+short-of s = record { few = s .few; each = record { each = λ i. record { within = omega (arith, s .most i) } } }
 
 pub sum-total : {shares : List ℤ} → Shares shares → sum shares ≡ pos (total shares)
 unfolding total

@@ -3,11 +3,13 @@ use mathlib.Core.Path.{_≡_, refl, sym, ap, ap₂, _∙_, subst}
 use mathlib.Core.Bool.{Bool, true, false, _&&_, and-true as and-unit, and-false, and-comm}
 use mathlib.Core.List.{List, _++_}
 use Prim.Native.Nat.{ℕ, zero, suc, _+_, _*_, _/_, _%_, _≤_, _<_}
-use native.Mathlib.Nat.{mul-add-div-right, mul-add-mod-self-right, div-eq-of-lt, mod-eq-of-lt, mul-one, add-comm, suc-mul, mul-le-mul-right}
+use native.Mathlib.Decide.{decLt}
+use native.Mathlib.Nat.{mul-add-div-right, mul-add-mod-self-right, div-eq-of-lt, div-lt-iff-lt-mul, div-add-mod', mod-eq-of-lt, mod-lt, mul-one, add-comm, suc-mul, mul-le-mul-right}
 use native.Mathlib.Omega.{arith}
 use lib.Dec.{eqb}
 use lib.IntN.{ℤ, pos, _+ℤ_, +ℤ-idl, +ℤ-idr, +ℤ-assoc}
 use lib.ListN.{length, set, take, drop, replicate, length-set, take-append-drop}
+use lib.Seq.{getD-set-other, ext-getD}
 use borrow.Author.Tests.{eq-eqb, ne-eqb, eqb-true}
 use Rattle.ints.specs.Number.{Within}
 use Rattle.ints.specs.Refusal.{pick, lent}
@@ -16,7 +18,7 @@ use Rattle.ints.specs.Table.{_at_}
 use Rattle.ints.proofs.Adding.{added, only-within}
 use Rattle.ints.proofs.Bools.{same, and-true}
 use Rattle.ints.proofs.Sizes.{w-add, w-lit, w-up}
-use Rattle.ints.proofs.Sums.{sumTo-zero, sumTo-next, sumTo-only, sumTo-abs}
+use Rattle.ints.proofs.Sums.{sumTo-zero, sumTo-next, sumTo-none, sumTo-only, sumTo-abs}
 use Rattle.load.specs.Table.{InRange, Room, Spread, cell, Cells, Added}
 
 -- ---- parts are added one by one
@@ -48,6 +50,13 @@ module _ {before : List ℤ} {start step : ℕ} {parts : List ℤ} where
       (w-up (w-add (r .before i l) (record { within = sumTo-abs (share start step parts k) 1000000000000 i (λ j h. only-within (eqb (start + j * step) k) (r .small .each j (omega arith)) .within) }))
       (omega (arith, r .few)))
 
+  -- past all of them nothing is added
+  pub spread-past : {n : ℕ} {after : List ℤ} → Spread before start step parts n after → (k : ℕ) → ((i : ℕ) → i < n → start + i * step < k) → after at k ≡ before at k
+  spread-past {n} s k below =
+      s .each k
+      ∙ ap (λ (z : ℤ). before at k +ℤ z) (sumTo-none (share start step parts k) n (λ i l. ap (λ (t : Bool). only t (parts at i)) (ne-eqb (start + i * step) k (λ e. omega (arith, below i l)))))
+      ∙ +ℤ-idr (before at k)
+
 -- a list whose front was lent, and is given back as the answer says
 pub lent-front : (answer : ℕ) (result whole : List ℤ) (n : ℕ) → lent answer result (take n whole) ++ drop n whole ≡ lent answer (result ++ drop n whole) whole
 lent-front answer result whole n = by (eqb answer 0)
@@ -64,6 +73,10 @@ row-of n p b l = mul-add-div-right (omega arith) p b ∙ omega (arith, div-eq-of
 
 pub column-of : (n p b : ℕ) → b < n → (p * n + b) % n ≡ b
 column-of n p b l = mul-add-mod-self-right p n b ∙ mod-eq-of-lt l
+
+-- row q lies within the first m rows
+pub row-end : (n q m : ℕ) → q < m → q * n + n ≤ m * n
+row-end n q m h = rw suc-mul at (mul-le-mul-right n h)
 
 -- two places are the same where row and column are
 module _ (n q i p b : ℕ) (in-row : i < n) (in-row′ : b < n) where
@@ -85,25 +98,34 @@ one-left test f t place n l h =
 
 module _ {before parts after : List ℤ} (n : ℕ) where
   -- parts added along row q
-  pub row-added : (q : ℕ) → Spread before (q * n) 1 parts n after → Added n (λ p b. only (eqb q p) (parts at b)) before after
-  row-added q s = record { same = s .same; each = λ p b _ l. s .each (p * n + b) ∙ ap (λ (z : ℤ). cell n before p b +ℤ z) (one-left (λ i. eqb (q * n + i * 1) (p * n + b)) (λ i. parts at i) (eqb q p) b n l (place p b l)) }
+  pub row-added : (q : ℕ) → q < 64 → Spread before (q * n) 1 parts n after → Added n (λ p b. only (eqb q p) (parts at b)) before after
+  row-added q h s = record {
+    same = s .same;
+    each = λ p b _ l. s .each (p * n + b) ∙ ap (λ (z : ℤ). cell n before p b +ℤ z) (one-left (λ i. eqb (q * n + i * 1) (p * n + b)) (λ i. parts at i) (eqb q p) b n l (place p b l));
+    past = λ k m. spread-past s k (λ i u. omega (arith, row-end n q 64 h));
+  }
     where
       place : (p b : ℕ) → b < n → (i : ℕ) → i < n → eqb (q * n + i * 1) (p * n + b) ≡ (eqb q p && eqb i b)
       place p b l i u = ap (λ (k : ℕ). eqb (q * n + k) (p * n + b)) (mul-one i) ∙ same-place n q i p b u l
 
   -- parts added along column c
   pub column-added : (c : ℕ) → c < n → Spread before c n parts 64 after → Added n (λ p b. only (eqb c b) (parts at p)) before after
-  column-added c h s = record { same = s .same; each = λ p b u l. s .each (p * n + b) ∙ ap (λ (z : ℤ). cell n before p b +ℤ z) (one-left (λ i. eqb (c + i * n) (p * n + b)) (λ i. parts at i) (eqb c b) p 64 u (place p b l)) }
+  column-added c h s = record {
+    same = s .same;
+    each = λ p b u l. s .each (p * n + b) ∙ ap (λ (z : ℤ). cell n before p b +ℤ z) (one-left (λ i. eqb (c + i * n) (p * n + b)) (λ i. parts at i) (eqb c b) p 64 u (place p b l));
+    past = λ k m. spread-past s k (λ i u. omega (arith, row-end n i 64 u));
+  }
     where
       place : (p b : ℕ) → b < n → (i : ℕ) → i < 64 → eqb (c + i * n) (p * n + b) ≡ (eqb c b && eqb i p)
       place p b l i u = ap (λ (k : ℕ). eqb k (p * n + b)) (add-comm c (i * n)) ∙ same-place n i c p b h l ∙ and-comm (eqb i p) (eqb c b)
 
 -- a number added in row q at column c
-pub cell-added : {before : List ℤ} (n q c : ℕ) (z : ℤ) → c < n → q * n + c < length before
+pub cell-added : {before : List ℤ} (n q c : ℕ) (z : ℤ) → q < 64 → c < n → q * n + c < length before
     → Added n (λ p b. only (eqb c b) (only (eqb q p) z)) before (set before (q * n + c) (before at (q * n + c) +ℤ z))
-cell-added {before} n q c z h r = record {
+cell-added {before} n q c z g h r = record {
   same = length-set before (q * n + c) _;
   each = λ p b _ l. added before (q * n + c) z (p * n + b) r ∙ ap (λ (y : ℤ). cell n before p b +ℤ y) (ap (λ (t : Bool). only t z) (same-place n q c p b h l) ∙ both (eqb q p) (eqb c b));
+  past = λ k m. getD-set-other before (q * n + c) k _ (pos 0) (λ e. omega (arith, row-end n q 64 g));
 }
   where
     both : (s t : Bool) → only (s && t) z ≡ only t (only s z)
@@ -116,7 +138,7 @@ cell-added {before} n q c z h r = record {
 
 module _ {n : ℕ} where
   pub added-none : {table : List ℤ} (f : ℕ → ℕ → ℤ) → ((p b : ℕ) → f p b ≡ pos 0) → Added n f table table
-  added-none {table} f h = record { same = refl; each = λ p b _ _. sym (ap (λ (z : ℤ). cell n table p b +ℤ z) (h p b) ∙ +ℤ-idr (cell n table p b)) }
+  added-none {table} f h = record { same = refl; each = λ p b _ _. sym (ap (λ (z : ℤ). cell n table p b +ℤ z) (h p b) ∙ +ℤ-idr (cell n table p b)); past = λ k m. refl }
 
   pub added-then : {f g : ℕ → ℕ → ℤ} {before table after : List ℤ} (h : ℕ → ℕ → ℤ) → Added n f before table → Added n g table after
       → ((p b : ℕ) → p < 64 → b < n → f p b +ℤ g p b ≡ h p b) → Added n h before after
@@ -125,20 +147,29 @@ module _ {n : ℕ} where
     each = λ p b u l.
         y .each p b u l ∙ ap (λ (z : ℤ). z +ℤ g p b) (x .each p b u l) ∙ +ℤ-assoc (cell n before p b) (f p b) (g p b)
         ∙ ap (λ (z : ℤ). cell n before p b +ℤ z) (e p b u l);
+    past = λ k m. y .past k m ∙ x .past k m;
   }
 
   pub added-same : {f : ℕ → ℕ → ℤ} {before after : List ℤ} (h : ℕ → ℕ → ℤ) → Added n f before after → ((p b : ℕ) → p < 64 → b < n → f p b ≡ h p b) → Added n h before after
-  added-same {f} {before} h x e = record { same = x .same; each = λ p b u l. x .each p b u l ∙ ap (λ (z : ℤ). cell n before p b +ℤ z) (e p b u l) }
+  added-same {f} {before} h x e = record { same = x .same; each = λ p b u l. x .each p b u l ∙ ap (λ (z : ℤ). cell n before p b +ℤ z) (e p b u l); past = x .past }
+
+  -- it leaves one list
+  pub added-unique : {f : ℕ → ℕ → ℤ} {before after other : List ℤ} → Added n f before after → Added n f before other → after ≡ other
+  added-unique {f} {before} {after} {other} x y = ext-getD (pos 0) after other (x .same ∙ sym (y .same)) (λ k _. by k (decLt k (64 * n)))
+    where
+      by : (k : ℕ) → Dec (k < 64 * n) → after at k ≡ other at k
+      by k (yes l) =
+          let some : 1 ≤ n = omega arith in
+          let place = div-add-mod' k n in
+          let row = div-lt-iff-lt-mul some .1 l in
+          ap (λ (i : ℕ). after at i) (sym place) ∙ x .each (k / n) (k % n) row (mod-lt k some) ∙ sym (y .each (k / n) (k % n) row (mod-lt k some)) ∙ ap (λ (i : ℕ). other at i) place
+      by k (no l) = x .past k (omega arith) ∙ sym (y .past k (omega arith))
 
   -- a bound on what was there and on what is added
   pub added-cells : {f : ℕ → ℕ → ℤ} {before after : List ℤ} {k m : ℕ} (most : ℕ) → Added n f before after → Cells n before k → ((p b : ℕ) → p < 64 → b < n → Within (f p b) m) → k + m ≤ most → Cells n after most
   added-cells most x c w h = record { each = λ p b u l. subst (λ (z : ℤ). Within z most) (sym (x .each p b u l)) (w-up (w-add (c .each p b u l) (w p b u l)) h) }
 
 -- ---- there is room along a row and along a column
-
--- row q lies within the first m rows
-pub row-end : (n q m : ℕ) → q < m → q * n + n ≤ m * n
-row-end n q m h = rw suc-mul at (mul-le-mul-right n h)
 
 -- 64 rows of at most 64 numbers
 pub rows-fit : (n q c : ℕ) → n ≤ 64 → q < 64 → c < n → q * n + c < 4096

@@ -4,17 +4,12 @@ use mathlib.Core.List.{List}
 use Prim.Native.Nat.{ℕ, _+_, _*_, _≤_, _<_}
 use lib.IntN.{ℤ, pos, natAbs, _+ℤ_, _-ℤ_}
 use lib.ListN.{length}
-use Rattle.ints.specs.Number.{Within}
+use Rattle.ints.specs.Range.{Short}
 use Rattle.ints.specs.Table.{_at_}
 use Rattle.split.specs.Split.{parts, refusal}
 use Rattle.split.specs.Given.{Shares}
 use Rattle.load.specs.Load.{supplier, area, kw, count, partsOf, contractLoad, contracted, auctioned}
 use Rattle.load.specs.Table.{Cells}
-
--- a list whose sum fits
-pub record Short (list : List ℤ) : Type 0 where
-  pub few : length list ≤ 64
-  pub small : (i : ℕ) → Within (list at i) 4000000000
 
 -- kW in range
 pub record Ranged (z : ℤ) : Type 0 where

@@ -6,7 +6,7 @@ use lib.Dec.{eqb}
 use lib.IntN.{ℤ, natAbs, _+ℤ_, _-ℤ_}
 use lib.ListN.{length, take, drop}
 use Rattle.ints.specs.Refusal.{pick}
-use Rattle.ints.specs.Sum.{sumTo, only}
+use Rattle.ints.specs.Sum.{sumTo, sum, only}
 use Rattle.ints.specs.Table.{_at_, tab}
 use Rattle.split.specs.Split.{total, parts}
 
@@ -15,10 +15,6 @@ use Rattle.split.specs.Split.{total, parts}
 -- "A distributor is metered (1) or not (0)."
 abbrev pub isMetered : ℤ → Bool
 isMetered metered = eqb (natAbs metered) 1
-
--- the numbers of a list added up
-abbrev pub sum : List ℤ → ℤ
-sum list = sumTo (λ i. list at i) (length list)
 
 -- "If metered, its load is the sum of net imports .. and generation"
 abbrev pub meteredLoad : List ℤ → List ℤ → ℤ

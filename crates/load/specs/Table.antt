@@ -34,7 +34,8 @@ cell n table p b = table at (p * n + b)
 pub record Cells (n : ℕ) (table : List ℤ) (k : ℕ) : Type 0 where
   pub each : (p b : ℕ) → p < 64 → b < n → Within (cell n table p b) k
 
--- f p b was added in row p at column b
+-- f p b was added in row p at column b, of 64 rows, and nothing past them
 pub record Added (n : ℕ) (f : ℕ → ℕ → ℤ) (before after : List ℤ) : Type 0 where
   pub same : length after ≡ length before
   pub each : (p b : ℕ) → p < 64 → b < n → cell n after p b ≡ cell n before p b +ℤ f p b
+  pub past : (k : ℕ) → 64 * n ≤ k → after at k ≡ before at k

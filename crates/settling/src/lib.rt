@@ -2,9 +2,10 @@
 ghost use mathlib.Core.Path.{_≡_};
 ghost use lib.ListN.{length};
 ghost use Rattle.ints.specs.Refusal.{lent};
+ghost use Rattle.ints.specs.Sum.{sum};
 ghost use Rattle.split.specs.Split.{parts};
 ghost use Rattle.exercise.specs.File.{throughLength};
-ghost use Rattle.credits.specs.Paid.{rounded, summed, paidRefusal, netted};
+ghost use Rattle.credits.specs.Paid.{rounded, paidRefusal, netted};
 ghost use Rattle.hour.specs.Given.{Bills, Outputs};
 ghost use Rattle.hour.specs.Charges.{participants, congestionCharges, lossCharges, credits, nets};
 ghost use Rattle.hour.specs.Order.{hourRefusal, restRefusal};
@@ -20,11 +21,11 @@ fn bill(
     net: &mut [i64],
 ) -> u32
     requires { ⌜ Bills (now charged) (now lost) (now shares) (now congestion) (now loss) (now credit) (now net) ⌝ }
-    ensures { λ r. ⌜ r ≡ paidRefusal (summed (rounded (now (lost .entry)))) (now (shares .entry)) ⌝ }
+    ensures { λ r. ⌜ r ≡ paidRefusal (sum (rounded (now (lost .entry)))) (now (shares .entry)) ⌝ }
     ensures { λ r. ⌜ now (congestion .exit) ≡ lent r (rounded (now (charged .entry))) (now (congestion .entry)) ⌝ }
     ensures { λ r. ⌜ now (loss .exit) ≡ lent r (rounded (now (lost .entry))) (now (loss .entry)) ⌝ }
-    ensures { λ r. ⌜ now (credit .exit) ≡ lent r (parts (summed (rounded (now (lost .entry)))) (now (shares .entry))) (now (credit .entry)) ⌝ }
-    ensures { λ r. ⌜ now (net .exit) ≡ lent r (netted (rounded (now (charged .entry))) (rounded (now (lost .entry))) (parts (summed (rounded (now (lost .entry)))) (now (shares .entry)))) (now (net .entry)) ⌝ }
+    ensures { λ r. ⌜ now (credit .exit) ≡ lent r (parts (sum (rounded (now (lost .entry)))) (now (shares .entry))) (now (credit .entry)) ⌝ }
+    ensures { λ r. ⌜ now (net .exit) ≡ lent r (netted (rounded (now (charged .entry))) (rounded (now (lost .entry))) (parts (sum (rounded (now (lost .entry)))) (now (shares .entry)))) (now (net .entry)) ⌝ }
 {
     credits::round(charged);
     credits::round(lost);

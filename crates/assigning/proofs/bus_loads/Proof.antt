@@ -31,7 +31,7 @@ length-front : (s : tie.Start) → length (take (length (s .args .loads .now)) (
 length-front s = length-take-le (length (s .args .loads .now)) (s .args .served .now) (omega (arith, s .pre .0 .tested .few, s .pre .1))
 
 -- the metered load
-module _ (x : tie.After-sum-of2) where
+module _ (x : tie.After-sum2) where
   abbrev start : tie.Start
   start = x .before .before .before .before
 
@@ -41,13 +41,13 @@ module _ (x : tie.After-sum-of2) where
   abbrev generation : List ℤ
   generation = start .args .generation .now
 
-  sums : toZ w64 (ofZ w64 (x .before .sum-of .result)) +ℤ toZ w64 (ofZ w64 (x .sum-of2 .result)) ≡ meteredLoad imports generation
-  sums = ap₂ _+ℤ_ (toZ-ofZ {w = w64} (sfits-of (x .before .sum-of .ok)) ∙ x .before .sum-of .ensures) (toZ-ofZ {w = w64} (sfits-of (x .sum-of2 .ok)) ∙ x .sum-of2 .ensures)
+  sums : toZ w64 (ofZ w64 (x .before .sum .result)) +ℤ toZ w64 (ofZ w64 (x .sum2 .result)) ≡ meteredLoad imports generation
+  sums = ap₂ _+ℤ_ (toZ-ofZ {w = w64} (sfits-of (x .before .sum .ok)) ∙ x .before .sum .ensures) (toZ-ofZ {w = w64} (sfits-of (x .sum2 .ok)) ∙ x .sum2 .ensures)
 
   fits : SFits w64 (meteredLoad imports generation)
   fits = w-fits (w-add (sum-within (start .pre .0 .imports-short)) (sum-within (start .pre .0 .generation-short))) tt
 
-  load-is : toZ w64 (ofZ w64 (toZ w64 (ofZ w64 (x .before .sum-of .result)) +ℤ toZ w64 (ofZ w64 (x .sum-of2 .result)))) ≡ meteredLoad imports generation
+  load-is : toZ w64 (ofZ w64 (toZ w64 (ofZ w64 (x .before .sum .result)) +ℤ toZ w64 (ofZ w64 (x .sum2 .result)))) ≡ meteredLoad imports generation
   load-is = ap (λ (z : ℤ). toZ w64 (ofZ w64 z)) sums ∙ toZ-ofZ fits
 
   on : isMetered (start .args .metered) ≡ true
@@ -84,11 +84,11 @@ returns c = let k = c .before in let t = k .before .before in let s = t .before 
       ap (λ (l : List ℤ). l ++ drop (length (a .loads .now)) (a .served .now)) (k .copy .ensures ∙ ap (tab (λ i. a .loads .now at i)) (length-front s) ∙ tab-at (a .loads .now) ∙ sym (unmetered-loads (a .metered) (a .loads .now) (a .imports .now) (a .generation .now) off)),
     )
 
-sum-of-requires : tie.Need-sum-of-requires
-sum-of-requires c κs = c .before .before .pre .0 .imports-short
+sum-requires : tie.Need-sum-requires
+sum-requires c κs = c .before .before .pre .0 .imports-short
 
-sum-of-requires-2 : tie.Need-sum-of-requires-2
-sum-of-requires-2 c κs = c .before .before .before .pre .0 .generation-short
+sum-requires-2 : tie.Need-sum-requires-2
+sum-requires-2 c κs = c .before .before .before .pre .0 .generation-short
 
 add-load : tie.Need-add-load
 add-load c = subst (SFits w64) (sym (sums c)) (fits c)
@@ -123,8 +123,8 @@ bus-loads-spec =
     copy-requires
     same-length
     returns
-    sum-of-requires
-    sum-of-requires-2
+    sum-requires
+    sum-requires-2
     add-load
     is-between-requires
     returns-2

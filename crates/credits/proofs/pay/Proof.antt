@@ -12,13 +12,14 @@ use mir.Facts.{toZ-ofZ}
 use borrow.Author.Needs.{needs, sfits-of}
 use Rattle.ints.specs.Range.{InRange}
 use Rattle.ints.specs.Refusal.{lent}
+use Rattle.ints.specs.Sum.{sum}
 use Rattle.ints.proofs.Ranges.{range-up}
 use Rattle.ints.proofs.Refusals.{lent-result, kept}
 use Rattle.ints.proofs.Tables.{tab-copy}
 use Rattle.split.specs.Split.{parts, refusal}
 use Rattle.split.proofs.Laws.{length-parts}
 use Rattle.credits.specs.Facts.{mostCents}
-use Rattle.credits.specs.Paid.{summed, paidRefusal, netted}
+use Rattle.credits.specs.Paid.{paidRefusal, netted}
 use Rattle.credits.proofs.Paid.{ten-for-two, same-number, credits-cents}
 use Rattle.credits.proofs.pay.Statement.{statement}
 use Rattle.credits.proofs.pay.Tie as tie
@@ -33,7 +34,7 @@ module _ (c : tie.After-split) where
   shares = s .args .shares .now
 
   abbrev surplus : ℤ
-  surplus = summed (s .args .losses .now)
+  surplus = sum (s .args .losses .now)
 
   abbrev credits : List ℤ
   credits = parts surplus shares
@@ -68,7 +69,7 @@ module _ (c : tie.After-split) where
     credit-cents = subst (λ (l : List ℤ). InRange l mostCents) (sym made) (credits-cents surplus shares (length (s .args .credit .now)) (sym answer-is ∙ none))
 
 sum-requires : tie.Need-sum-requires
-sum-requires c κs = (range-up (c .pre .losses-cents) (omega arith), omega (arith, c .pre .losses-each, c .pre .few))
+sum-requires c κs = record { few = omega (arith, c .pre .losses-each, c .pre .few); each = range-up (c .pre .losses-cents) (omega arith) }
 
 split-requires : tie.Need-split-requires
 split-requires c κs = search needs

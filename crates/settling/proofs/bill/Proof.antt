@@ -6,8 +6,9 @@ use lib.IntN.{ℤ}
 use lib.ListN.{length}
 use borrow.Author.Needs.{needs}
 use Rattle.ints.specs.Refusal.{lent}
+use Rattle.ints.specs.Sum.{sum}
 use Rattle.split.specs.Split.{parts}
-use Rattle.credits.specs.Paid.{rounded, summed, paidRefusal, netted}
+use Rattle.credits.specs.Paid.{rounded, paidRefusal, netted}
 use Rattle.credits.proofs.Paid.{length-rounded}
 use Rattle.settling.proofs.bill.Statement.{statement}
 use Rattle.settling.proofs.bill.Tie as tie
@@ -69,14 +70,14 @@ returns c = let t = c .before .before .before .before .before .before .before .b
     let e = c .before .before .before .before .pay .ensures in
     let r = c .before .before .before .before .pay .result in
     let a = s t .args in (
-      e .0 ∙ ap (λ (l : List ℤ). paidRefusal (summed l) (a .shares .now)) (lost-is t),
+      e .0 ∙ ap (λ (l : List ℤ). paidRefusal (sum l) (a .shares .now)) (lost-is t),
       (
         e .1 .0 ∙ ap (λ (l : List ℤ). lent r l (a .congestion .now)) (charged-is t),
         (
           e .1 .1 .0 ∙ ap (λ (l : List ℤ). lent r l (a .loss .now)) (lost-is t),
           (
-            e .1 .1 .1 .0 ∙ ap (λ (l : List ℤ). lent r (parts (summed l) (a .shares .now)) (a .credit .now)) (lost-is t),
-            e .1 .1 .1 .1 ∙ ap₂ (λ (k l : List ℤ). lent r (netted k l (parts (summed l) (a .shares .now))) (a .net .now)) (charged-is t) (lost-is t),
+            e .1 .1 .1 .0 ∙ ap (λ (l : List ℤ). lent r (parts (sum l) (a .shares .now)) (a .credit .now)) (lost-is t),
+            e .1 .1 .1 .1 ∙ ap₂ (λ (k l : List ℤ). lent r (netted k l (parts (sum l) (a .shares .now))) (a .net .now)) (charged-is t) (lost-is t),
           ),
         ),
       ),
