@@ -1,4 +1,4 @@
--- `wunzelihle::assign_listed` meets its contract. Assumes nothing.
+-- `crossing::assign_listed` meets its contract. Assumes nothing.
 use mathlib.Core.Path.{_≡_, refl, sym, ap, ap₂, _∙_}
 use mathlib.Core.List.{List, _++_}
 use Prim.Native.Nat.{ℕ, _/_, _≤_}
@@ -15,10 +15,10 @@ use Rattle.numbers.specs.Bytes.{numbers, encoded}
 use Rattle.load.specs.Load.{Given, given, assignment}
 use Rattle.load.specs.Order.{refusal}
 use Rattle.load.proofs.Assigned.{length-assignment}
-use Rattle.wunzelihle.specs.Load.{givenBytes}
-use Rattle.wunzelihle.proofs.Lists.{is-whole, fits, front-is, front-long, front-length}
-use Rattle.wunzelihle.proofs.assign_listed.Statement.{statement}
-use Rattle.wunzelihle.proofs.assign_listed.Tie as tie
+use Rattle.crossing.specs.Load.{givenBytes}
+use Rattle.crossing.proofs.Lists.{is-whole, fits, front-is, front-long, front-length}
+use Rattle.crossing.proofs.assign_listed.Statement.{statement}
+use Rattle.crossing.proofs.assign_listed.Tie as tie
 
 -- the arguments, after the lists were read
 abbrev start : tie.After-won2 → tie.Start

@@ -1,13 +1,13 @@
--- `wunzelihle::hourly_count` meets its contract. Assumes nothing.
+-- `crossing::hourly_count` meets its contract. Assumes nothing.
 use mathlib.Core.Path.{sym, ap, _∙_}
 use mathlib.Core.Bool.{Bool}
 use Prim.Native.Nat.{_/_}
 use lib.Dec.{lit≤}
 use borrow.Author.Needs.{needs}
 use Rattle.ints.specs.Refusal.{pick}
-use Rattle.wunzelihle.proofs.Lists.{fits}
-use Rattle.wunzelihle.proofs.hourly_count.Statement.{statement}
-use Rattle.wunzelihle.proofs.hourly_count.Tie as tie
+use Rattle.crossing.proofs.Lists.{fits}
+use Rattle.crossing.proofs.hourly_count.Statement.{statement}
+use Rattle.crossing.proofs.hourly_count.Tie as tie
 
 is-list-requires : tie.Need-is-list-requires
 is-list-requires c κs = search needs

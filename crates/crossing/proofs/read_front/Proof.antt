@@ -1,5 +1,5 @@
--- `wunzelihle::read_front` meets its contract. Assumes nothing.
-use Rattle.wunzelihle.proofs.Lists.{is-whole, fits}
+-- `crossing::read_front` meets its contract. Assumes nothing.
+use Rattle.crossing.proofs.Lists.{is-whole, fits}
 use lib.Seq.{length-take-le}
 use lib.ListN.{length, drop}
 use lib.IntN.{ℤ}
@@ -8,8 +8,8 @@ use Prim.Native.Nat.{_/_, _≤_}
 use mathlib.Core.List.{List, _++_}
 use mathlib.Core.Path.{sym, ap}
 use borrow.Author.Needs.{needs}
-use Rattle.wunzelihle.proofs.read_front.Statement.{statement}
-use Rattle.wunzelihle.proofs.read_front.Tie as tie
+use Rattle.crossing.proofs.read_front.Statement.{statement}
+use Rattle.crossing.proofs.read_front.Tie as tie
 
 fits-front : (s : tie.Start) → length (s .args .bytes .now) / 8 ≤ length (s .args .list .now)
 fits-front s = fits (length (s .args .bytes .now)) (length (s .args .list .now)) (s .pre)

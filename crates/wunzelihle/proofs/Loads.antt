@@ -1,43 +1,21 @@
--- Slices that are lists: read into the front of an array, and refused by 1 where they are ragged or too long. Assumes nothing.
-use mathlib.Core.Path.{_≡_, refl, sym, ap, ap₂, _∙_}
+-- The load's order over slices: 1 where one is ragged or too long. Assumes nothing.
+use mathlib.Core.Path.{_≡_, refl, ap₂}
 use mathlib.Core.Bool.{Bool, true, false, _&&_}
-use mathlib.Core.List.{List, _++_}
-use Prim.Native.Nat.{ℕ, _/_, _%_, _≤_}
+use mathlib.Core.List.{List}
+use Prim.Native.Nat.{ℕ, _/_, _≤_}
 use native.Mathlib.Omega.{arith}
-use lib.Dec.{leb}
 use lib.IntN.{ℤ}
-use lib.ListN.{length, take, drop, length-append}
-use lib.Seq.{take-at}
-use borrow.Author.Tests.{le-leb, leb-true, eqb-true}
+use lib.ListN.{length}
+use borrow.Author.Tests.{le-leb}
 use Rattle.ints.specs.Refusal.{unless}
 use Rattle.ints.proofs.Bools.{and-true}
 use Rattle.numbers.specs.Bytes.{numbers}
 use Rattle.numbers.proofs.Laws.{length-numbers}
 use Rattle.load.specs.Order.{refusal}
 use Rattle.load.proofs.Lengths.{too-long}
-use Rattle.wunzelihle.specs.Load.{givenBytes, whole, listed, loadRefusal, AllListed}
-
--- ---- a list
-
-module _ (bytes most : ℕ) (e : listed bytes most ≡ true) where
-  pub is-whole : bytes % 8 ≡ 0
-  is-whole = eqb-true (bytes % 8) 0 (and-true (whole bytes) (leb (bytes / 8) most) e .0)
-
-  pub fits : bytes / 8 ≤ most
-  fits = leb-true (bytes / 8) most (and-true (whole bytes) (leb (bytes / 8) most) e .1)
-
--- the front of a list into which another was read
-module _ (s : List ℕ) (old list : List ℤ) (e : list ≡ numbers s ++ drop (length s / 8) old) where
-  pub front-is : take (length s / 8) list ≡ numbers s
-  front-is = ap (take (length s / 8)) e ∙ take-at (numbers s) (drop (length s / 8) old) (length s / 8) (length-numbers s)
-
-  pub front-long : length s / 8 ≤ length list
-  front-long = omega (arith, ap length e ∙ length-append (numbers s) (drop (length s / 8) old), length-numbers s)
-
-  pub front-length : length s / 8 ≡ length (take (length s / 8) list)
-  front-length = sym (ap length front-is ∙ length-numbers s)
-
--- ---- the order
+use Rattle.crossing.specs.Lists.{whole, listed}
+use Rattle.crossing.specs.Load.{givenBytes, AllListed}
+use Rattle.wunzelihle.specs.Load.{loadRefusal}
 
 -- a line that gives 1, as all later ones do where its test holds
 one-line : (t : Bool) (later : ℕ) → (t ≡ true → later ≡ 1) → unless t 1 later ≡ 1

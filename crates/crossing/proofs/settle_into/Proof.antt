@@ -1,4 +1,4 @@
--- `wunzelihle::settle_into` meets its contract. Assumes nothing.
+-- `crossing::settle_into` meets its contract. Assumes nothing.
 use mathlib.Core.Path.{_≡_, sym, ap, _∙_}
 use Prim.Native.Nat.{ℕ, _*_}
 use lib.ListN.{length}
@@ -6,10 +6,10 @@ use borrow.Author.Needs.{needs}
 use Rattle.ints.proofs.Refusals.{lent-result, lent-before}
 use Rattle.numbers.specs.Bytes.{encoded}
 use Rattle.hour.specs.Charges.{participants}
-use Rattle.wunzelihle.specs.Hour.{settleRefusal, hourly}
-use Rattle.wunzelihle.proofs.Hours.{settled-refusal, Bytes, bytes, numbers-in}
-use Rattle.wunzelihle.proofs.settle_into.Statement.{statement}
-use Rattle.wunzelihle.proofs.settle_into.Tie as tie
+use Rattle.crossing.specs.Hour.{settleRefusal, hourly}
+use Rattle.crossing.proofs.Hours.{settled-refusal, Bytes, bytes, numbers-in}
+use Rattle.crossing.proofs.settle_into.Statement.{statement}
+use Rattle.crossing.proofs.settle_into.Tie as tie
 
 -- the arguments, after the hour was settled
 abbrev given : tie.After-settle → tie.Start
@@ -52,7 +52,7 @@ same-length-4 c = search needs
 returns : tie.Need-returns
 returns c = let t = c .before .before .before .before .before in
     let some = c .if1 .taken in
-    (answer t, (lent-before _ _ _ some, (lent-before _ _ _ some, (lent-before _ _ _ some, lent-before _ _ _ some))))
+    (answer t, (lent-before _ _ _ some, (lent-before _ _ _ some, (lent-before _ _ _ some, (lent-before _ _ _ some, t .settle .ensures .1)))))
 
 write-all-requires : tie.Need-write-all-requires
 write-all-requires c κs = let l = c .before .before in
@@ -102,19 +102,12 @@ returns-2 c = let w4 = c .before .before in
     let l = w1 .before .before .before in
     let t = settled l in
     let e = t .settle .ensures .1 in
-    let z = l .if1 .left in (
-      sym z ∙ answer t,
-      (
-        w1 .write-all .ensures ∙ ap encoded (e .0 ∙ lent-result _ _ _ z),
-        (
-          w2 .write-all2 .ensures ∙ ap encoded (e .1 .0 ∙ lent-result _ _ _ z),
-          (
-            w3 .write-all3 .ensures ∙ ap encoded (e .1 .1 .0 ∙ lent-result _ _ _ z),
-            w4 .write-all4 .ensures ∙ ap encoded (e .1 .1 .1 ∙ lent-result _ _ _ z),
-          ),
-        ),
-      ),
-    )
+    let z = l .if1 .left in
+    let congestion-is = e .0 ∙ lent-result _ _ _ z in
+    let loss-is = e .1 .0 ∙ lent-result _ _ _ z in
+    let credit-is = e .1 .1 .0 ∙ lent-result _ _ _ z in
+    let net-is = e .1 .1 .1 ∙ lent-result _ _ _ z in
+    (sym z ∙ answer t, (w1 .write-all .ensures ∙ ap encoded congestion-is, (w2 .write-all2 .ensures ∙ ap encoded loss-is, (w3 .write-all3 .ensures ∙ ap encoded credit-is, (w4 .write-all4 .ensures ∙ ap encoded net-is, (congestion-is, (loss-is, (credit-is, net-is))))))))
 
 pub settle-into-spec : {M : Type 1} → statement M
 settle-into-spec =
