@@ -18,8 +18,9 @@ use Rattle.hour.specs.Given.{Outputs}
 use Rattle.hour.specs.Order.{hourRefusal}
 use Rattle.hour.proofs.Order.{ends-early, goes-on}
 use Rattle.hour.proofs.Theorems.{congestions-length, losses-length, credits-length, nets-length, congestion-cents, loss-cents, credit-cents, net-cents}
-use Rattle.printed.specs.Given.{Lists}
-use Rattle.printed.specs.Statement.{lines, refused, refusal, statement}
+use Rattle.lines.specs.Given.{Lists}
+use Rattle.lines.specs.Lines.{lines, refused}
+use Rattle.printed.specs.Statement.{refusal, statement}
 
 module _ (file : List ℕ) where
   abbrev whole : List ℕ

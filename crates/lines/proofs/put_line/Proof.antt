@@ -1,4 +1,4 @@
--- `printed::put_line` meets its contract. Assumes nothing.
+-- `lines::put_line` meets its contract. Assumes nothing.
 use mathlib.Core.Path.{_≡_, ap, ap₂}
 use mathlib.Core.List.{List, _++_}
 use Prim.Native.Nat.{ℕ}
@@ -11,9 +11,9 @@ use borrow.Author.Needs.{needs, sfits-of}
 use Rattle.ints.specs.Table.{_at_}
 use Rattle.text.specs.Decimal.{decimal}
 use Rattle.text.proofs.Laws.{more, told}
-use Rattle.printed.proofs.Lines.{same-fields}
-use Rattle.printed.proofs.put_line.Statement.{statement}
-use Rattle.printed.proofs.put_line.Tie as tie
+use Rattle.lines.proofs.Lines.{same-fields}
+use Rattle.lines.proofs.put_line.Statement.{statement}
+use Rattle.lines.proofs.put_line.Tie as tie
 
 cast-put-number : tie.Need-cast-put-number
 cast-put-number c = search needs

@@ -1,4 +1,4 @@
--- `printed::put_refused` meets its contract. Assumes nothing.
+-- `lines::put_refused` meets its contract. Assumes nothing.
 use mathlib.Core.Path.{ap}
 use mathlib.Core.List.{_++_}
 use native.Mathlib.Omega.{arith}
@@ -9,8 +9,8 @@ use borrow.Author.Needs.{needs}
 use Rattle.text.specs.Ascii.{ascii}
 use Rattle.text.specs.Decimal.{decimal}
 use Rattle.text.proofs.Laws.{more, told}
-use Rattle.printed.proofs.put_refused.Statement.{statement}
-use Rattle.printed.proofs.put_refused.Tie as tie
+use Rattle.lines.proofs.put_refused.Statement.{statement}
+use Rattle.lines.proofs.put_refused.Tie as tie
 
 slice-aggregate-put-all : tie.Need-slice-aggregate-put-all
 slice-aggregate-put-all c = search needs

@@ -1,4 +1,4 @@
--- `printed::put_field` meets its contract. Assumes nothing.
+-- `lines::put_field` meets its contract. Assumes nothing.
 use mathlib.Core.Path.{ap}
 use mathlib.Core.List.{_∷_}
 use lib.IntN.{ℤ}
@@ -7,8 +7,8 @@ use mir.Facts.{toZ-ofZ}
 use borrow.Author.Needs.{needs, sfits-of}
 use Rattle.text.specs.Decimal.{decimal}
 use Rattle.text.proofs.Laws.{more, told}
-use Rattle.printed.proofs.put_field.Statement.{statement}
-use Rattle.printed.proofs.put_field.Tie as tie
+use Rattle.lines.proofs.put_field.Statement.{statement}
+use Rattle.lines.proofs.put_field.Tie as tie
 
 put-requires : tie.Need-put-requires
 put-requires c κs = search needs

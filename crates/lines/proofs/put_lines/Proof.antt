@@ -1,4 +1,4 @@
--- `printed::put_lines` meets its contract. Assumes nothing.
+-- `lines::put_lines` meets its contract. Assumes nothing.
 use mathlib.Core.Path.{_≡_, ap}
 use Prim.Native.Nat.{_-_, _*_, _≤_}
 use native.Mathlib.Omega.{arith}
@@ -7,10 +7,10 @@ use borrow.Author.Needs.{needs}
 use Rattle.text.specs.Written.{Written}
 use Rattle.text.proofs.Laws.{nothing, more, told}
 use Rattle.text.proofs.Laws as laws
-use Rattle.printed.specs.Statement.{joined, line}
-use Rattle.printed.proofs.Lines.{joined-none, joined-next}
-use Rattle.printed.proofs.put_lines.Statement.{statement}
-use Rattle.printed.proofs.put_lines.Tie as tie
+use Rattle.lines.specs.Lines.{joined, line}
+use Rattle.lines.proofs.Lines.{joined-none, joined-next}
+use Rattle.lines.proofs.put_lines.Statement.{statement}
+use Rattle.lines.proofs.put_lines.Tie as tie
 
 abbrev Inv-loop : tie.InvT-loop
 Inv-loop page₀ congestion loss credit net at₀ p₀ page at p = (p ≤ length congestion) × (at ≤ 105 * p) × Written page₀ 0 (joined (line congestion loss credit net) p) page at

@@ -4,7 +4,7 @@ use mathlib.Core.List.{List, [], _++_}
 use Prim.Native.Nat.{ℕ, _+_}
 use native.Mathlib.Numerals.{add-one}
 use lib.IntN.{ℤ}
-use Rattle.printed.specs.Statement.{joined, fields}
+use Rattle.lines.specs.Lines.{joined, fields}
 
 pub same-fields : {a b c d x y z t : ℤ} → a ≡ x → b ≡ y → c ≡ z → d ≡ t → fields a b c d ≡ fields x y z t
 same-fields {c = c} {d = d} {x = x} {y = y} e f g h = ap₂ (λ (p q : ℤ). fields p q c d) e f ∙ ap₂ (fields x y) g h

@@ -1,8 +1,8 @@
--- `printed::put_fields` meets its contract. Assumes nothing.
+-- `lines::put_fields` meets its contract. Assumes nothing.
 use borrow.Author.Needs.{needs}
 use Rattle.text.proofs.Laws.{more}
-use Rattle.printed.proofs.put_fields.Statement.{statement}
-use Rattle.printed.proofs.put_fields.Tie as tie
+use Rattle.lines.proofs.put_fields.Statement.{statement}
+use Rattle.lines.proofs.put_fields.Tie as tie
 
 put-field-requires : tie.Need-put-field-requires
 put-field-requires c κs = search needs

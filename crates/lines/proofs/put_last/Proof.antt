@@ -1,4 +1,4 @@
--- `printed::put_last` meets its contract. Assumes nothing.
+-- `lines::put_last` meets its contract. Assumes nothing.
 use mathlib.Core.Path.{ap, _∙_}
 use mathlib.Core.List.{List, _++_}
 use Prim.Native.Nat.{ℕ}
@@ -7,9 +7,9 @@ use mir.Facts.{toZ-ofZ}
 use borrow.Author.Needs.{needs, sfits-of}
 use Rattle.text.specs.Ascii.{ascii}
 use Rattle.text.proofs.Laws.{more, told}
-use Rattle.printed.proofs.Lines.{same-fields}
-use Rattle.printed.proofs.put_last.Statement.{statement}
-use Rattle.printed.proofs.put_last.Tie as tie
+use Rattle.lines.proofs.Lines.{same-fields}
+use Rattle.lines.proofs.put_last.Statement.{statement}
+use Rattle.lines.proofs.put_last.Tie as tie
 
 slice-aggregate-put-all : tie.Need-slice-aggregate-put-all
 slice-aggregate-put-all c = search needs
