@@ -7,19 +7,20 @@ use native.Mathlib.Omega.{arith}
 use lib.IntN.{ℤ}
 use lib.ListN.{length, drop, length-append}
 use borrow.Author.Tests.{eq-eqb, ne-eqb}
-use Rattle.ints.specs.Range.{InRange}
+use Rattle.ints.specs.Range.{InRange, Short}
 use Rattle.ints.specs.Refusal.{pick}
 use Rattle.ints.proofs.Ranges.{range-up}
 use Rattle.exercise.specs.File.{throughLength}
 use Rattle.exercise.proofs.Whole.{small}
-use Rattle.credits.specs.Facts.{mostCents, mostNet}
+use Rattle.credits.specs.Facts.{mostNet}
 use Rattle.hour.specs.Charges.{participants, congestionCharges, lossCharges, credits, nets}
 use Rattle.hour.specs.Given.{Outputs}
 use Rattle.hour.specs.Order.{hourRefusal}
 use Rattle.hour.proofs.Order.{ends-early, goes-on}
 use Rattle.hour.proofs.Theorems.{congestions-length, losses-length, credits-length, nets-length, congestion-cents, loss-cents, credit-cents, net-cents}
-use Rattle.printed.specs.Given.{Lists}
-use Rattle.printed.specs.Statement.{lines, refused, refusal, statement}
+use Rattle.lines.specs.Given.{Lists}
+use Rattle.lines.specs.Lines.{lines, refused}
+use Rattle.printed.specs.Statement.{refusal, statement}
 
 module _ (file : List ℕ) where
   abbrev whole : List ℕ
@@ -55,16 +56,18 @@ module _ (file : List ℕ) where
         count : length a ≡ participants file
         count = ap length e ∙ congestions-length file _ _ _ _ accepts
 
+        short : {x l : List ℤ} → x ≡ l → length l ≡ participants file → InRange l mostNet → Short x
+        short k n w = record { few = omega (arith, ap length k ∙ n, small file .participants); each = subst (λ (l : List ℤ). InRange l mostNet) (sym k) w }
+
         pub lists-of : {page : ℕ} → 6825 ≤ page → Lists page a b c d
         lists-of room = record {
-          few = omega (arith, count, small file .participants);
           loss-each = ap length f ∙ losses-length file _ _ _ _ accepts ∙ sym count;
           credit-each = ap length g ∙ credits-length file _ _ _ _ accepts ∙ sym count;
           net-each = ap length h ∙ nets-length file _ _ _ _ accepts ∙ sym count;
-          congestion-range = range-up (subst (λ (l : List ℤ). InRange l mostCents) (sym e) (congestion-cents file _ _ _ _ accepts)) (omega arith);
-          loss-range = range-up (subst (λ (l : List ℤ). InRange l mostCents) (sym f) (loss-cents file _ _ _ _ accepts)) (omega arith);
-          credit-range = range-up (subst (λ (l : List ℤ). InRange l mostCents) (sym g) (credit-cents file _ _ _ _ accepts)) (omega arith);
-          net-range = subst (λ (l : List ℤ). InRange l mostNet) (sym h) (net-cents file _ _ _ _ accepts);
+          congestion-short = short e (congestions-length file _ _ _ _ accepts) (range-up (congestion-cents file _ _ _ _ accepts) (omega arith));
+          loss-short = short f (losses-length file _ _ _ _ accepts) (range-up (loss-cents file _ _ _ _ accepts) (omega arith));
+          credit-short = short g (credits-length file _ _ _ _ accepts) (range-up (credit-cents file _ _ _ _ accepts) (omega arith));
+          net-short = short h (nets-length file _ _ _ _ accepts) (net-cents file _ _ _ _ accepts);
           room = room;
         }
 

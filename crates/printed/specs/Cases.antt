@@ -19,7 +19,8 @@ use Rattle.credits.specs.Paid.{paidRefusal}
 use Rattle.hour.specs.Cases.{congested, hourOf, noPrice, highest, heaviest, light}
 use Rattle.hour.specs.Charges.{surplus, shares, congestionCharges, lossCharges, credits, nets}
 use Rattle.hour.specs.Order.{outputs, hourRefusal}
-use Rattle.printed.specs.Statement.{joined, statement}
+use Rattle.lines.specs.Lines.{joined}
+use Rattle.printed.specs.Statement.{statement}
 
 document-01 : statement exercise.statement ≡ ascii "0 0 1000 927 73\n1 0 390 463 -73\ntotal 0 1390 1390 0\n"
 unfolding statement hourRefusal outputs joined digitsIn throughLength headerRefusal fromPrices inTurn priceRefusal rowRefusal transactionRefusal paidRefusal all total sumN surplus shares tab centsOf charge positions paths aheadAt realAt aheadPath realPath Σℤ sumTo header bytesAt placesOf congestionCharges lossCharges credits nets parts part cutDown remainder unitsLeft before place

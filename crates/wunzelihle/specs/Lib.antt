@@ -1,4 +1,3 @@
 pub mod Split
 pub mod Load
-pub mod Hour
 pub mod Cases

@@ -2,12 +2,11 @@
 use mathlib.Core.Path.{_≡_, _∙_}
 use mathlib.Core.List.{List}
 use Prim.Native.Nat.{ℕ, _≤_}
-use native.Mathlib.Omega.{arith}
 use borrow.Author.Needs.{needs}
 use Rattle.ints.proofs.Refusals.{lent-result}
-use Rattle.text.proofs.Laws.{more, told, same-length as as-long}
+use Rattle.text.proofs.Laws.{told}
 use Rattle.hour.specs.Charges.{congestionCharges, lossCharges, credits, nets}
-use Rattle.printed.specs.Given.{Lists}
+use Rattle.lines.specs.Given.{Lists}
 use Rattle.printed.proofs.Hours as hours
 use Rattle.printed.proofs.put_hour.Statement.{statement}
 use Rattle.printed.proofs.put_hour.Tie as tie
@@ -66,15 +65,9 @@ returns c = let t = c .before .before .before .before .before .before .before .b
       search needs,
     )
 
-put-lines-requires : tie.Need-put-lines-requires
-put-lines-requires c κs = let l = c .before .before .before .before .before in
+put-settled-requires : tie.Need-put-settled-requires
+put-settled-requires c κs = let l = c .before .before .before .before .before in
     lists l (s l .pre .0 .1)
-
-put-last-requires : tie.Need-put-last-requires
-put-last-requires c κs = let l = c .before .before .before .before .before .before .before .before .before .before .before .before .before in
-    let w = c .before .before .before .before .before .before .before .put-lines .ensures in
-    let g = lists l (s l .pre .0 .1) in
-    (omega (arith, w .1, as-long (w .0), g .few, g .room), lists l (omega (arith, as-long (w .0), s l .pre .0 .1)))
 
 same-length-6 : tie.Need-same-length-6
 same-length-6 c = search needs
@@ -92,11 +85,9 @@ same-length-10 : tie.Need-same-length-10
 same-length-10 c = search needs
 
 returns-2 : tie.Need-returns-2
-returns-2 c = let l = c .before .before .before .before .before .before .before .before .before .before .before .before .before .before .before .before in
-    let w = c .before .before .before .before .before .before .before .before .before .before .put-lines .ensures in (
-      told (more (w .0) (c .before .before .put-last .ensures .0)) (hours.lines-are (file l) (s l .pre .0 .0) (s l .pre .1) (t l .settle .result) (t l .settle .ensures .0) (l .if1 .left) (congestion-is l) (loss-is l) (credit-is l) (net-is l)),
-      omega (arith, c .before .before .put-last .ensures .1, w .1, lists l (s l .pre .0 .1) .few),
-    )
+returns-2 c = let l = c .before .before .before .before .before .before .before .before in
+    let w = c .before .before .put-settled .ensures in
+    (told (w .0) (hours.lines-are (file l) (s l .pre .0 .0) (s l .pre .1) (t l .settle .result) (t l .settle .ensures .0) (l .if1 .left) (congestion-is l) (loss-is l) (credit-is l) (net-is l)), w .1)
 
 pub put-hour-spec : {M : Type 1} → statement M
 put-hour-spec =
@@ -110,8 +101,7 @@ put-hour-spec =
     same-length-4
     same-length-5
     returns
-    put-lines-requires
-    put-last-requires
+    put-settled-requires
     same-length-6
     same-length-7
     same-length-8

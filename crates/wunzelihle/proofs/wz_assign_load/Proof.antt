@@ -1,6 +1,7 @@
 -- `wunzelihle::wz_assign_load` meets its contract. Assumes nothing.
-use Rattle.wunzelihle.proofs.Lists.{not-listed, all-listed}
-use Rattle.wunzelihle.specs.Load.{givenBytes, loadRefusal, AllListed}
+use Rattle.wunzelihle.proofs.Loads.{not-listed, all-listed}
+use Rattle.wunzelihle.specs.Load.{loadRefusal}
+use Rattle.crossing.specs.Load.{givenBytes, AllListed}
 use Rattle.load.specs.Order.{refusal}
 use Rattle.load.specs.Load.{Given, assignment}
 use Rattle.numbers.specs.Bytes.{encoded}

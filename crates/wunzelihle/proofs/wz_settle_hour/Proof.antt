@@ -69,7 +69,8 @@ same-length-4 : tie.Need-same-length-4
 same-length-4 c = search needs
 
 returns : tie.Need-returns
-returns c = search needs
+returns c = let e = c .before .before .before .before .before .before .before .before .before .before .before .before .settle-into .ensures in
+    (e .0, (e .1 .0, (e .1 .1 .0, (e .1 .1 .1 .0, e .1 .1 .1 .1 .0))))
 
 pub wz-settle-hour-spec : {M : Type 1} → statement M
 wz-settle-hour-spec =

@@ -1,0 +1,4 @@
+pub mod Lists
+pub mod Load
+pub mod Hour
+pub mod Cases
