@@ -101,25 +101,36 @@ fn run_load(
     end_line();
 }
 
-fn main() {
-    let mut three = [0i64; 3];
-    run_split(10, &[1, 1, 1], &mut three);
-    run_split(-10, &[1, 1, 1], &mut three);
-    run_split(100, &[1, 2, 3], &mut three);
-    let mut two = [0i64; 2];
-    run_split(5, &[0, 1], &mut two);
-    run_split(1, &[1, 1], &mut two);
-    let mut one = [0i64; 1];
-    run_split(0, &[0], &mut one);
-    run_split(1, &[0], &mut one);
-    run_split(1_000_000_001, &[1], &mut one);
-    run_split(1, &[], &mut one);
-    run_rounding(60_000);
-    run_rounding(59_999);
-    run_rounding(-60_000);
+// P1 to P7 and two refusals, by how many parties share.
+fn run_three() {
+    let mut parts = [0i64; 3];
+    run_split(10, &[1, 1, 1], &mut parts);
+    run_split(-10, &[1, 1, 1], &mut parts);
+    run_split(100, &[1, 2, 3], &mut parts);
+}
+
+fn run_two() {
+    let mut parts = [0i64; 2];
+    run_split(5, &[0, 1], &mut parts);
+    run_split(1, &[1, 1], &mut parts);
+}
+
+fn run_one() {
+    let mut parts = [0i64; 1];
+    run_split(0, &[0], &mut parts);
+    run_split(1, &[0], &mut parts);
+    run_split(1_000_000_001, &[1], &mut parts);
+    run_split(1, &[], &mut parts);
+}
+
+// Metered load alone, no tranche won.
+fn run_metered(loads: &[i64], imports: &[i64], generation: &[i64]) {
     let none = [0i64; 64];
-    run_load(&[100, 200, 300], &[500, -40], &[200], 0, &[], &[], &none);
-    run_load(&[100, 200, 300], &[601], &[], 0, &[], &[], &none);
+    run_load(loads, imports, generation, 0, &[], &[], &none);
+}
+
+// The same with a contract of participant 2 in one area, and tranches.
+fn run_contract() {
     let mut tranches = [0i64; 64];
     tranches[0] = 3;
     tranches[1] = 1;
@@ -132,6 +143,18 @@ fn main() {
         &[2, 0, 10],
         &tranches,
     );
-    run_load(&[0, 0, 0], &[], &[], 0, &[], &[], &none);
-    run_load(&[0, 0, 0], &[1], &[], 0, &[], &[], &none);
+}
+
+fn main() {
+    run_three();
+    run_two();
+    run_one();
+    run_rounding(60_000);
+    run_rounding(59_999);
+    run_rounding(-60_000);
+    run_metered(&[100, 200, 300], &[500, -40], &[200]);
+    run_metered(&[100, 200, 300], &[601], &[]);
+    run_contract();
+    run_metered(&[0, 0, 0], &[], &[]);
+    run_metered(&[0, 0, 0], &[1], &[]);
 }
