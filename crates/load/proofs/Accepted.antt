@@ -17,7 +17,7 @@ use Rattle.ints.specs.Range.{Short}
 use Rattle.ints.specs.Table.{_at_, all}
 use Rattle.ints.proofs.Bools.{and-true, not-both}
 use Rattle.ints.proofs.Eachs.{allTo-at}
-use Rattle.ints.proofs.Ranges.{range-at}
+use Rattle.ints.proofs.Ranges.{range-at, room}
 use Rattle.ints.proofs.Refusals.{passed}
 use Rattle.ints.proofs.Tables.{all-at}
 use Rattle.ints.proofs.Tests.{between-size, between-natural}
@@ -29,7 +29,6 @@ use Rattle.load.specs.Load.{supplier, area, kw, count, partsOf, Given, b
 use Rattle.load.specs.Order.{counts, lengths, ranges, named, identities, areaTotals, tests}
 use Rattle.load.proofs.Handed.{minus-natural}
 use Rattle.load.proofs.Splits.{short-of, length-stretch, splits-of}
-use Rattle.load.proofs.Tables.{row-end}
 
 -- ---- the groups
 
@@ -188,7 +187,7 @@ module _ {metered : ℤ} {loads imports generation : List ℤ} {areas : ℤ} {ar
   }
 
   stretch-long : (a : ℕ) → a < natAbs areas → a * length loads + length loads ≤ length areaParts
-  stretch-long a h = omega (arith, row-end (length loads) a (natAbs areas) h, m .parts-long)
+  stretch-long a h = omega (arith, room a (natAbs areas) (length loads) h, m .parts-long)
 
   stretch-shares : (a : ℕ) → a < natAbs areas → Shares (partsOf (length loads) areaParts a)
   stretch-shares a h = shares-in (naturals-stretch (length loads) a (naturals-of 1000000 (r .parts-in))) (omega (arith, length-stretch (length loads) areaParts a (stretch-long a h), c .few)) (omega arith)

@@ -7,15 +7,13 @@ use native.Mathlib.Omega.{arith}
 use lib.Dec.{ltb, eqb}
 use lib.IntN.{ℤ, pos, natAbs}
 use lib.ListN.{length}
-use lib.Seq.{ext-getD}
 use Rattle.ints.specs.Number.{Within, between}
 use Rattle.ints.specs.Range.{Short}
 use Rattle.ints.specs.Refusal.{pick, unless}
 use Rattle.ints.specs.Sum.{sum}
-use Rattle.ints.specs.Table.{_at_, tab}
+use Rattle.ints.specs.Table.{_at_}
 use Rattle.ints.proofs.Sizes.{w-up}
 use Rattle.ints.proofs.Sums.{sumTo-abs}
-use Rattle.ints.proofs.Tables.{length-tab, getD-tab}
 use Rattle.split.specs.Split.{total, parts}
 use Rattle.split.proofs.Accepted.{fromTotal}
 use Rattle.load.specs.Load.{isMetered, meteredLoad, busLoads}
@@ -54,9 +52,3 @@ module _ (metered : ℤ) (loads imports generation : List ℤ) where
 -- a short list's sum is not large
 pub sum-within : {list : List ℤ} → Short list → Within (sum list) 14757395258967552
 sum-within {list} s = w-up {h = length list * 230584300921368} (record { within = sumTo-abs (λ i. list at i) 230584300921368 (length list) (λ i _. s .each .each i .within) }) (omega (arith, s .few))
-
--- a list by its numbers
-pub tab-at : (list : List ℤ) → tab (λ i. list at i) (length list) ≡ list
-tab-at list =
-    ext-getD (pos 0) (tab (λ i. list at i) (length list)) list (length-tab (λ i. list at i) (length list))
-    (λ i l. getD-tab (λ i. list at i) (pos 0) (length list) i (omega (arith, length-tab (λ i. list at i) (length list))))

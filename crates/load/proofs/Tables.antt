@@ -2,9 +2,9 @@
 use mathlib.Core.Path.{_≡_, refl, sym, ap, ap₂, _∙_, subst}
 use mathlib.Core.Bool.{Bool, true, false, _&&_, and-true as and-unit, and-false, and-comm}
 use mathlib.Core.List.{List, _++_}
-use Prim.Native.Nat.{ℕ, zero, suc, _+_, _*_, _/_, _%_, _≤_, _<_}
+use Prim.Native.Nat.{ℕ, _+_, _*_, _/_, _%_, _≤_, _<_}
 use native.Mathlib.Decide.{decLt}
-use native.Mathlib.Nat.{mul-add-div-right, mul-add-mod-self-right, div-eq-of-lt, div-lt-iff-lt-mul, div-add-mod', mod-eq-of-lt, mod-lt, mul-one, add-comm, suc-mul, mul-le-mul-right}
+use native.Mathlib.Nat.{mul-add-div-right, mul-add-mod-self-right, div-eq-of-lt, div-lt-iff-lt-mul, div-add-mod', mod-eq-of-lt, mod-lt, mul-one, add-comm}
 use native.Mathlib.Omega.{arith}
 use lib.Dec.{eqb}
 use lib.IntN.{ℤ, pos, _+ℤ_, +ℤ-idl, +ℤ-idr, +ℤ-assoc}
@@ -12,6 +12,7 @@ use lib.ListN.{length, set, take, drop, replicate, length-set, take-append-drop}
 use lib.Seq.{getD-set-other, ext-getD}
 use borrow.Author.Tests.{eq-eqb, ne-eqb, eqb-true}
 use Rattle.ints.specs.Number.{Within}
+use Rattle.ints.proofs.Ranges.{room, zero-at}
 use Rattle.ints.specs.Refusal.{pick, lent}
 use Rattle.ints.specs.Sum.{sumTo, only}
 use Rattle.ints.specs.Table.{_at_}
@@ -74,10 +75,6 @@ row-of n p b l = mul-add-div-right (omega arith) p b ∙ omega (arith, div-eq-of
 pub column-of : (n p b : ℕ) → b < n → (p * n + b) % n ≡ b
 column-of n p b l = mul-add-mod-self-right p n b ∙ mod-eq-of-lt l
 
--- row q lies within the first m rows
-pub row-end : (n q m : ℕ) → q < m → q * n + n ≤ m * n
-row-end n q m h = rw suc-mul at (mul-le-mul-right n h)
-
 -- two places are the same where row and column are
 module _ (n q i p b : ℕ) (in-row : i < n) (in-row′ : b < n) where
   meets : q * n + i ≡ p * n + b → (q ≡ p) × (i ≡ b)
@@ -102,7 +99,7 @@ module _ {before parts after : List ℤ} (n : ℕ) where
   row-added q h s = record {
     same = s .same;
     each = λ p b _ l. s .each (p * n + b) ∙ ap (λ (z : ℤ). cell n before p b +ℤ z) (one-left (λ i. eqb (q * n + i * 1) (p * n + b)) (λ i. parts at i) (eqb q p) b n l (place p b l));
-    past = λ k m. spread-past s k (λ i u. omega (arith, row-end n q 64 h));
+    past = λ k m. spread-past s k (λ i u. omega (arith, room q 64 n h));
   }
     where
       place : (p b : ℕ) → b < n → (i : ℕ) → i < n → eqb (q * n + i * 1) (p * n + b) ≡ (eqb q p && eqb i b)
@@ -113,7 +110,7 @@ module _ {before parts after : List ℤ} (n : ℕ) where
   column-added c h s = record {
     same = s .same;
     each = λ p b u l. s .each (p * n + b) ∙ ap (λ (z : ℤ). cell n before p b +ℤ z) (one-left (λ i. eqb (c + i * n) (p * n + b)) (λ i. parts at i) (eqb c b) p 64 u (place p b l));
-    past = λ k m. spread-past s k (λ i u. omega (arith, row-end n i 64 u));
+    past = λ k m. spread-past s k (λ i u. omega (arith, room i 64 n u));
   }
     where
       place : (p b : ℕ) → b < n → (i : ℕ) → i < 64 → eqb (c + i * n) (p * n + b) ≡ (eqb c b && eqb i p)
@@ -125,7 +122,7 @@ pub cell-added : {before : List ℤ} (n q c : ℕ) (z : ℤ) → q < 64 → c < 
 cell-added {before} n q c z g h r = record {
   same = length-set before (q * n + c) _;
   each = λ p b _ l. added before (q * n + c) z (p * n + b) r ∙ ap (λ (y : ℤ). cell n before p b +ℤ y) (ap (λ (t : Bool). only t z) (same-place n q c p b h l) ∙ both (eqb q p) (eqb c b));
-  past = λ k m. getD-set-other before (q * n + c) k _ (pos 0) (λ e. omega (arith, row-end n q 64 g));
+  past = λ k m. getD-set-other before (q * n + c) k _ (pos 0) (λ e. omega (arith, room q 64 n g));
 }
   where
     both : (s t : Bool) → only (s && t) z ≡ only t (only s z)
@@ -173,7 +170,7 @@ module _ {n : ℕ} where
 
 -- 64 rows of at most 64 numbers
 pub rows-fit : (n q c : ℕ) → n ≤ 64 → q < 64 → c < n → q * n + c < 4096
-rows-fit n q c few h l = omega (arith, row-end n q 64 h)
+rows-fit n q c few h l = omega (arith, room q 64 n h)
 
 module _ {table parts : List ℤ} (n : ℕ) (few : n ≤ 64) (cells : Cells n table 1000000000000) where
   pub row-room : (q : ℕ) → q < 64 → q * n + n ≤ length table → n ≤ length parts → InRange parts n 1000000000000 → Room table (q * n) 1 parts n
@@ -196,14 +193,9 @@ module _ {table parts : List ℤ} (n : ℕ) (few : n ≤ 64) (cells : Cells n ta
 
 -- ---- zeros
 
-pub zeros-at : (m i : ℕ) → replicate m (pos 0) at i ≡ pos 0
-zeros-at zero i = refl
-zeros-at (suc m) zero = refl
-zeros-at (suc m) (suc i) = zeros-at m i
-
 pub zero-cells : (n m : ℕ) → Cells n (replicate m (pos 0)) 0
-zero-cells n m = record { each = λ p b _ _. subst (λ (z : ℤ). Within z 0) (sym (zeros-at m (p * n + b))) (w-lit tt) }
+zero-cells n m = record { each = λ p b _ _. subst (λ (z : ℤ). Within z 0) (sym (zero-at m (p * n + b))) (w-lit tt) }
 
 -- what was added to zeros
 pub added-zeros : {n : ℕ} (m : ℕ) {f : ℕ → ℕ → ℤ} {after : List ℤ} → Added n f (replicate m (pos 0)) after → (p b : ℕ) → p < 64 → b < n → cell n after p b ≡ f p b
-added-zeros {n} m {f} x p b u l = x .each p b u l ∙ ap (λ (z : ℤ). z +ℤ f p b) (zeros-at m (p * n + b)) ∙ +ℤ-idl (f p b)
+added-zeros {n} m {f} x p b u l = x .each p b u l ∙ ap (λ (z : ℤ). z +ℤ f p b) (zero-at m (p * n + b)) ∙ +ℤ-idl (f p b)

@@ -11,6 +11,7 @@ use lib.ListN.{length}
 use lib.Signed.{leZ}
 use borrow.Author.Tests.{eq-eqb, ne-eqb, le-ltb, eqb-true, eqb-false}
 use Rattle.ints.specs.Each.{allTo}
+use Rattle.ints.proofs.Ranges.{room}
 use Rattle.ints.specs.Number.{below0}
 use Rattle.ints.specs.Sum.{sumTo, only}
 use Rattle.ints.specs.Table.{_at_, tab}
@@ -34,7 +35,7 @@ use Rattle.load.proofs.Assigned.{metered-splits, bus-load-ranged}
 use Rattle.load.proofs.Handed.{stays, is-shared, splits-over, contract-natural, contracted-natural, left-ranged, natural-sum}
 use Rattle.load.proofs.Meters.{metered-loads}
 use Rattle.load.proofs.Splits.{part-ranged}
-use Rattle.load.proofs.Tables.{row-end, row-of, column-of}
+use Rattle.load.proofs.Tables.{row-of, column-of}
 
 -- one participant of 64 has it all
 one-has : (q : ℕ) (z : ℤ) → q < 64 → sumTo (λ p. only (eqb q p) z) 64 ≡ z
@@ -57,7 +58,7 @@ sum-not-below {m = m} {k = k} e f = ap₂ (λ (x y : ℤ). below0 (x +ℤ y)) e 
 pub assignment-at : (d : Given) (p b : ℕ) → p < 64 → b < buses d → cell (buses d) (assignment d) p b ≡ assigned d p b
 unfolding assignment
 assignment-at d p b u l =
-    getD-tab (λ k. assigned d (k / buses d) (k % buses d)) (pos 0) (64 * buses d) (p * buses d + b) (omega (arith, row-end (buses d) p 64 u))
+    getD-tab (λ k. assigned d (k / buses d) (k % buses d)) (pos 0) (64 * buses d) (p * buses d + b) (omega (arith, room p 64 (buses d) u))
     ∙ ap₂ (assigned d) (row-of (buses d) p b l) (column-of (buses d) p b l)
 
 module _ (d : Given) (n : ℕ) (accepts : refusal d n ≡ 0) where

@@ -1,9 +1,11 @@
 -- A row, and a transaction, that was decoded in turn: accepted, all up to it have no refusal; refused, its refusal is that of all. Assumes nothing.
-use mathlib.Core.Path.{_≡_, refl}
+use mathlib.Core.Path.{_≡_, refl, sym, ap, _∙_}
+use mathlib.Core.Bool.{Bool, true, false}
 use mathlib.Core.List.{List}
 use Prim.Native.Nat.{ℕ, _+_, _<_}
 use native.Mathlib.Omega.{arith}
-use Rattle.ints.proofs.Turns.{answer-next, answer-first, answer-some, answer-taken}
+use Rattle.ints.proofs.Turns.{answer-number, answer-next, answer-first, answer-some, answer-taken}
+use Rattle.rows.specs.Either.{refusalAt}
 use Rattle.rows.specs.Row.{rowAt, rowRefusalAt, decodedRowAt, rowNumber, rowsRefusal}
 use Rattle.rows.specs.Transaction.{transactionAt, transactionRefusalAt, decodedTransactionAt, transactionNumber, transactionsRefusal}
 use Rattle.rows.specs.declared.DecodedRow.{DecodedRow}
@@ -37,6 +39,14 @@ module _ (participants locations : ℕ) (s : List ℕ) (i : ℕ) where
   pub transaction-decoded : (t : Transaction) → decodedTransactionAt participants locations s i ≡ DecodedTransaction.Decoded t
       → (transactionRefusalAt participants locations s i ≡ 0) × (transactionAt s i ≡ t)
   transaction-decoded t e = answer-taken DecodedTransaction.Decoded DecodedTransaction.Refused transaction-inside transaction-apart _ (transactionAt s i) t e
+
+  -- its number is its refusal
+  pub row-own : {transactions : Bool} → transactions ≡ false → (d : DecodedRow) → d ≡ decodedRowAt participants locations s i → rowNumber d ≡ refusalAt transactions participants locations s i
+  row-own b d e = ap rowNumber e ∙ answer-number DecodedRow.Decoded DecodedRow.Refused rowNumber (λ _. refl) (λ _. refl) _ (rowAt s i) ∙ sym (ap (λ (t : Bool). refusalAt t participants locations s i) b)
+
+  pub transaction-own : {transactions : Bool} → transactions ≡ true → (d : DecodedTransaction) → d ≡ decodedTransactionAt participants locations s i → transactionNumber d ≡ refusalAt transactions participants locations s i
+  transaction-own b d e =
+      ap transactionNumber e ∙ answer-number DecodedTransaction.Decoded DecodedTransaction.Refused transactionNumber (λ _. refl) (λ _. refl) _ (transactionAt s i) ∙ sym (ap (λ (t : Bool). refusalAt t participants locations s i) b)
 
   -- in turn
   module _ (d : DecodedRow) (e : d ≡ decodedRowAt participants locations s i) (before : rowsRefusal participants locations s i ≡ 0) where

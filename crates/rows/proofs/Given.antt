@@ -1,10 +1,12 @@
 -- What the order of refusals tells of the counts and bytes that one row is decoded from. Assumes nothing.
 use mathlib.Core.Path.{_≡_, refl, sym, subst}
-use mathlib.Core.Bool.{true}
+use mathlib.Core.Bool.{Bool, true}
+use mathlib.Core.List.{List}
 use Prim.Native.Nat.{ℕ, _≤_}
 use native.Mathlib.Omega.{arith}
 use lib.Dec.{T, eqb, leb→le}
 use lib.IntN.{ℤ, pos, negsuc, natAbs}
+use lib.ListN.{length}
 use lib.Signed.{leZ, nonNeg}
 use mir.Syntax.{w64}
 use mir.Val.{SFits, Fits, toZ, ofZ}
@@ -13,7 +15,9 @@ use borrow.Author.Tests.{eqb-true}
 use Rattle.ints.specs.Number.{between}
 use Rattle.ints.proofs.Bools.{and-true}
 use Rattle.ints.proofs.Refusals.{passed}
+use Rattle.ints.proofs.Turns.{then-none}
 use Rattle.rows.specs.Alone.{givenRefusal}
+use Rattle.rows.specs.Either.{refusalAt, aloneRefusal}
 
 -- a count that is 1 to 64 is a natural number
 pub record Counted (x : ℤ) : Type 0 where
@@ -42,3 +46,7 @@ given participants locations bytes size e =
 -- such a count as an unsigned number
 pub cast : {x : ℤ} → SFits w64 x → Counted x → T (nonNeg (toZ w64 (ofZ w64 x))) × Fits w64 (natAbs (toZ w64 (ofZ w64 x)))
 cast {x} f k = rw (toZ-ofZ f) (subst (λ (z : ℤ). T (nonNeg z)) (sym (k .is)) tt, record { fits = omega (arith, k .few) })
+
+-- one that isn't refused has its six bytes
+pub alone-whole : (transactions : Bool) (participants locations : ℤ) (bytes : List ℕ) → aloneRefusal transactions participants locations bytes ≡ 0 → length bytes ≡ 6
+alone-whole transactions participants locations bytes e = given participants locations (length bytes) 6 (then-none _ (refusalAt transactions (natAbs participants) (natAbs locations) bytes 0) e .0) .whole

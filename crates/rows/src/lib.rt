@@ -2,10 +2,12 @@
 ghost use mathlib.Core.Path.{_≡_};
 ghost use Prim.Native.Nat.{_+_, _*_, _≤_, _<_};
 ghost use lib.ListN.{length};
+ghost use Rattle.ints.specs.Turn.{inTurn};
 ghost use Rattle.rows.specs.Packed.{bytesAt};
 ghost use Rattle.rows.specs.Row.{rowOf, hasKind, hasInterval, rowRefusal, decodedRowAt, rowNumber, rowsRefusal};
 ghost use Rattle.rows.specs.Transaction.{transactionOf, transactionRefusal, decodedTransactionAt, transactionNumber, transactionsRefusal};
 ghost use Rattle.rows.specs.Alone.{givenRefusal, decodedRow, decodedTransaction};
+ghost use Rattle.rows.specs.Either.{refusalAt, aloneRefusal};
 use units::Kw;
 
 // A position: what a participant withdraws or injects at a location.
@@ -152,22 +154,6 @@ pub fn row_number(decoded: DecodedRow) -> u32
     }
 }
 
-// The refusal of the first n rows of a stretch in turn, 0 where there is none.
-pub fn rows_refusal(participants: usize, locations: usize, rows: &[u8], n: usize) -> u32
-    requires { ⌜ 6 * n ≤ length (now rows) ⌝ }
-    ensures { λ r. ⌜ r ≡ rowsRefusal participants locations (now (rows .entry)) n ⌝ }
-{
-    let mut i: usize = 0;
-    while i < n {
-        let decoded = row_at(participants, locations, rows, i);
-        let DecodedRow::Decoded(_) = decoded else {
-            return row_number(decoded);
-        };
-        i += 1;
-    }
-    0
-}
-
 // ---- transactions
 
 // The transaction of 48 bits.
@@ -234,7 +220,56 @@ pub fn transaction_number(decoded: DecodedTransaction) -> u32
     }
 }
 
-// The refusal of the first n transactions of a stretch in turn, 0 where there is none.
+// ---- refusals of rows, or of transactions, in turn
+
+// The refusal of row i of a stretch, or of transaction i; 0 where there is none.
+fn refusal_at(
+    transactions: bool,
+    participants: usize,
+    locations: usize,
+    stretch: &[u8],
+    i: usize,
+) -> u32
+    requires { ⌜ 6 * i + 6 ≤ length (now stretch) ⌝ }
+    ensures { λ r. ⌜ r ≡ refusalAt transactions participants locations (now (stretch .entry)) i ⌝ }
+{
+    if transactions {
+        return transaction_number(transaction_at(participants, locations, stretch, i));
+    }
+    row_number(row_at(participants, locations, stretch, i))
+}
+
+// The refusal of the first n of a stretch in turn; 0 where there is none.
+fn refusal_in_turn(
+    transactions: bool,
+    participants: usize,
+    locations: usize,
+    stretch: &[u8],
+    n: usize,
+) -> u32
+    requires { ⌜ 6 * n ≤ length (now stretch) ⌝ }
+    ensures { λ r. ⌜ r ≡ inTurn (refusalAt transactions participants locations (now (stretch .entry))) n ⌝ }
+{
+    let mut i: usize = 0;
+    while i < n {
+        let refusal = refusal_at(transactions, participants, locations, stretch, i);
+        if refusal != 0 {
+            return refusal;
+        }
+        i += 1;
+    }
+    0
+}
+
+// The first n rows.
+pub fn rows_refusal(participants: usize, locations: usize, rows: &[u8], n: usize) -> u32
+    requires { ⌜ 6 * n ≤ length (now rows) ⌝ }
+    ensures { λ r. ⌜ r ≡ rowsRefusal participants locations (now (rows .entry)) n ⌝ }
+{
+    refusal_in_turn(false, participants, locations, rows, n)
+}
+
+// The first n transactions.
 pub fn transactions_refusal(
     participants: usize,
     locations: usize,
@@ -244,15 +279,7 @@ pub fn transactions_refusal(
     requires { ⌜ 6 * n ≤ length (now transactions) ⌝ }
     ensures { λ r. ⌜ r ≡ transactionsRefusal participants locations (now (transactions .entry)) n ⌝ }
 {
-    let mut i: usize = 0;
-    while i < n {
-        let decoded = transaction_at(participants, locations, transactions, i);
-        let DecodedTransaction::Decoded(_) = decoded else {
-            return transaction_number(decoded);
-        };
-        i += 1;
-    }
-    0
+    refusal_in_turn(true, participants, locations, transactions, n)
 }
 
 // ---- one row, or one transaction, by itself
@@ -273,15 +300,32 @@ fn given_refusal(participants: i64, locations: i64, bytes: usize, size: usize) -
     0
 }
 
+// The refusal of a row, or a transaction, by itself; 0 where there is none.
+fn alone_refusal(transactions: bool, participants: i64, locations: i64, bytes: &[u8]) -> u32
+    ensures { λ r. ⌜ r ≡ aloneRefusal transactions participants locations (now (bytes .entry)) ⌝ }
+{
+    let refusal = given_refusal(participants, locations, bytes.len(), 6);
+    if refusal != 0 {
+        return refusal;
+    }
+    refusal_at(
+        transactions,
+        participants as usize,
+        locations as usize,
+        bytes,
+        0,
+    )
+}
+
 // One row of six bytes.
 pub fn decode_row(participants: i64, locations: i64, row: &[u8]) -> DecodedRow
     ensures { λ r. ⌜ r ≡ decodedRow participants locations (now (row .entry)) ⌝ }
 {
-    let refusal = given_refusal(participants, locations, row.len(), 6);
+    let refusal = alone_refusal(false, participants, locations, row);
     if refusal != 0 {
         return DecodedRow::Refused(refusal);
     }
-    row_at(participants as usize, locations as usize, row, 0)
+    DecodedRow::Decoded(row_of(six_at(row, 0)))
 }
 
 // One transaction of six bytes.
@@ -292,9 +336,9 @@ pub fn decode_transaction(
 ) -> DecodedTransaction
     ensures { λ r. ⌜ r ≡ decodedTransaction participants locations (now (transaction .entry)) ⌝ }
 {
-    let refusal = given_refusal(participants, locations, transaction.len(), 6);
+    let refusal = alone_refusal(true, participants, locations, transaction);
     if refusal != 0 {
         return DecodedTransaction::Refused(refusal);
     }
-    transaction_at(participants as usize, locations as usize, transaction, 0)
+    DecodedTransaction::Decoded(transaction_of(six_at(transaction, 0)))
 }

@@ -1,12 +1,13 @@
 -- `assigning::bus_loads` meets its contract. Assumes nothing.
-use Rattle.load.proofs.Meters.{unmetered-answer, unmetered-loads, metered-loads, metered-outside, metered-inside, sum-within, tab-at}
+use Rattle.ints.proofs.Tables.{tab-copy}
+use Rattle.load.proofs.Meters.{unmetered-answer, unmetered-loads, metered-loads, metered-outside, metered-inside, sum-within}
 use Rattle.load.proofs.Splits.{last-line}
 use Rattle.load.specs.Facts.{Ranged}
 use Rattle.load.specs.Load.{isMetered, meteredLoad}
 use Rattle.split.specs.Split.{refusal, parts}
 use Rattle.ints.proofs.Tests.{between-natural}
 use Rattle.ints.proofs.Sizes.{w-add, w-fits}
-use Rattle.ints.specs.Table.{_at_, tab}
+use Rattle.ints.specs.Table.{_at_}
 use Rattle.ints.specs.Refusal.{lent}
 use Rattle.ints.specs.Number.{between}
 use mir.Facts.{toZ-ofZ}
@@ -81,7 +82,7 @@ returns : tie.Need-returns
 returns c = let k = c .before in let t = k .before .before in let s = t .before .before in let a = s .args in
     let off : isMetered (a .metered) ≡ false = ne-eqb _ _ (λ e. t .if1 .taken (metered-is (t .before) ∙ e)) in (
       sym (unmetered-answer (a .metered) (a .loads .now) (a .imports .now) (a .generation .now) off),
-      ap (λ (l : List ℤ). l ++ drop (length (a .loads .now)) (a .served .now)) (k .copy .ensures ∙ ap (tab (λ i. a .loads .now at i)) (length-front s) ∙ tab-at (a .loads .now) ∙ sym (unmetered-loads (a .metered) (a .loads .now) (a .imports .now) (a .generation .now) off)),
+      ap (λ (l : List ℤ). l ++ drop (length (a .loads .now)) (a .served .now)) (k .copy .ensures ∙ tab-copy (pos 0) (a .loads .now) (length-front s) ∙ sym (unmetered-loads (a .metered) (a .loads .now) (a .imports .now) (a .generation .now) off)),
     )
 
 sum-requires : tie.Need-sum-requires

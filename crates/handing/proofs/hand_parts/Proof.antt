@@ -1,11 +1,12 @@
 -- `handing::hand_parts` meets its contract. Assumes nothing.
-use Rattle.load.proofs.Tables.{row-added, row-room, row-end, added-same}
+use Rattle.load.proofs.Tables.{row-added, row-room, added-same}
 use Rattle.load.proofs.Splits.{portion-range}
 use Rattle.load.specs.Facts.{Splits, Portion}
 use Rattle.load.specs.Table.{Room, Spread, Added}
 use Rattle.split.proofs.Accepted.{accepted}
 use Rattle.split.specs.Split.{parts}
 use Rattle.ints.specs.Table.{_at_}
+use Rattle.ints.proofs.Ranges.{room}
 use Rattle.ints.specs.Sum.{only}
 use mir.Facts.{toZ-ofZ}
 use lib.ListN.{length}
@@ -47,14 +48,14 @@ portion-requires : tie.Need-portion-requires
 portion-requires c κs = let s = c .before in (subst (λ (z : ℤ). Splits z (s .args .shares .now)) (sym (toZ-ofZ (s .fits .kw))) (s .pre .0 .0), few s)
 
 mul-add : tie.Need-mul-add
-mul-add c = let s = c .before .before .before .before in record { fits = omega (arith, row-end (n s) (s .args .supplier) 64 (s .pre .0 .1), few s) }
+mul-add c = let s = c .before .before .before .before in record { fits = omega (arith, room (s .args .supplier) 64 (n s) (s .pre .0 .1), few s) }
 
 slice-aggregate-add : tie.Need-slice-aggregate-add
 slice-aggregate-add c = search needs
 
 add-requires : tie.Need-add-requires
 add-requires c κs = let x = c .before .before .before in let s = x .before .before in
-    row-room (n s) (few s) (s .pre .1 .table-small) (s .args .supplier) (s .pre .0 .1) (omega (arith, row-end (n s) (s .args .supplier) 64 (s .pre .0 .1), few s, s .pre .1 .table-long)) (made-is x .long) (portion-range (s .pre .0 .0) (made-is x))
+    row-room (n s) (few s) (s .pre .1 .table-small) (s .args .supplier) (s .pre .0 .1) (omega (arith, room (s .args .supplier) 64 (n s) (s .pre .0 .1), few s, s .pre .1 .table-long)) (made-is x .long) (portion-range (s .pre .0 .0) (made-is x))
 
 slice-aggregate-add-2 : tie.Need-slice-aggregate-add-2
 slice-aggregate-add-2 c = search needs

@@ -1,9 +1,9 @@
 -- `screening::all_whole` meets its contract. Assumes nothing.
-use Rattle.load.proofs.Tables.{row-end}
 use Rattle.load.specs.Load.{partsOf}
 use Rattle.split.specs.Given.{Shares}
 use Rattle.split.specs.Split.{total}
 use Rattle.ints.proofs.Eachs.{allTo-none, allTo-next, allTo-fails}
+use Rattle.ints.proofs.Ranges.{room}
 use Rattle.ints.specs.Each.{allTo}
 use lib.IntN.{ℤ}
 use lib.Dec.{eqb}
@@ -33,7 +33,7 @@ loop-holds : tie.Need-loop-holds Inv-loop μ-loop
 loop-holds c = (search needs, allTo-none (test c))
 
 parts-of-requires : tie.Need-parts-of-requires Inv-loop μ-loop
-parts-of-requires c κs = let l = c .before in let s = l .before in omega (arith, row-end (s .args .n) (l .loop .a) (s .args .areas) (c .loop-test .taken), s .pre .there)
+parts-of-requires c κs = let l = c .before in let s = l .before in omega (arith, room (l .loop .a) (s .args .areas) (s .args .n) (c .loop-test .taken), s .pre .there)
 
 is-whole-requires : tie.Need-is-whole-requires Inv-loop μ-loop
 is-whole-requires c κs = let l = c .before .before in subst Shares (sym (c .parts-of .ensures .0)) (l .before .pre .each (l .loop .a) (c .before .loop-test .taken))
