@@ -1,32 +1,21 @@
 -- Each public contract allows one result: two that it allows at the same arguments are equal. Assumes nothing.
 -- `F.Post` is the `ensures` of F, over lifetimes, arguments, result and what the lent lists hold at exit.
-use mathlib.Core.Path.{_≡_, ap}
+use mathlib.Core.Path.{_≡_}
 use Prim.Native.Nat.{ℕ}
-use lib.IntN.{ℤ}
 use contract.Lifetimes.{Lfts}
 use Rattle.ints.proofs.Unique.{unique}
-use Rattle.units.specs.declared.Mills.{Mills}
 use Rattle.exercise.specs.declared.Header.{Header}
 use Rattle.exercise.specs.declared.Places.{Places}
 use Rattle.exercise.proofs.check.Reads as check
-use Rattle.exercise.proofs.from_prices.Reads as from-prices
 use Rattle.exercise.proofs.interval_prices.Reads as interval-prices
 use Rattle.exercise.proofs.places_of.Reads as places-of
-use Rattle.exercise.proofs.price_at.Reads as price-at
-use Rattle.exercise.proofs.prices_refusal.Reads as prices-refusal
 use Rattle.exercise.proofs.read_header.Reads as read-header
 use Rattle.exercise.proofs.read_prices.Reads as read-prices
 use Rattle.exercise.proofs.rows_part.Reads as rows-part
 use Rattle.exercise.proofs.through_length.Reads as through-length
 
-pub price-at-unique : (κs : Lfts 1) (a : _) (r s : Mills) (e f : _) → price-at.Post κs a r e → price-at.Post κs a s f → r ≡ s
-price-at-unique κs a r s e f p q = ap (λ (n : ℤ). record { 0 = n }) (unique p q)
-
 pub read-prices-unique : (κs : Lfts 2) (a : _) (r s : _) (e f : _) → read-prices.Post κs a r e → read-prices.Post κs a s f → e .1 .1 .0 .now ≡ f .1 .1 .0 .now
 read-prices-unique κs a r s e f p q = unique p q
-
-pub prices-refusal-unique : (κs : Lfts 1) (a : _) (r s : ℕ) (e f : _) → prices-refusal.Post κs a r e → prices-refusal.Post κs a s f → r ≡ s
-prices-refusal-unique κs a r s e f p q = unique p q
 
 -- a part by its numbers and by where it lies: the block, and the place in it
 pub interval-prices-unique : (κs : Lfts 1) (a : _) (r s : _) (e f : _) → interval-prices.Post κs a r e → interval-prices.Post κs a s f → (r .now ≡ s .now) × (r .ptr .0 ≡ s .ptr .0) × (r .ptr .1 ≡ s .ptr .1)
@@ -40,9 +29,6 @@ places-of-unique a r s e f p q = unique p q
 
 pub through-length-unique : (κs : Lfts 1) (a : _) (r s : ℕ) (e f : _) → through-length.Post κs a r e → through-length.Post κs a s f → r ≡ s
 through-length-unique κs a r s e f p q = unique p q
-
-pub from-prices-unique : (κs : Lfts 1) (a : _) (r s : ℕ) (e f : _) → from-prices.Post κs a r e → from-prices.Post κs a s f → r ≡ s
-from-prices-unique κs a r s e f p q = unique p q
 
 pub check-unique : (κs : Lfts 1) (a : _) (r s : ℕ) (e f : _) → check.Post κs a r e → check.Post κs a s f → r ≡ s
 check-unique κs a r s e f p q = unique p q

@@ -33,7 +33,7 @@ fn from_bits(u: u64) -> i64
 }
 
 // Price j of a stretch of prices.
-pub fn price_at(prices: &[u8], j: usize) -> Mills
+fn price_at(prices: &[u8], j: usize) -> Mills
     requires { ⌜ 3 * j + 3 ≤ length (now prices) ⌝ }
     ensures { λ r. ⌜ r .0 ≡ priceAt (now (prices .entry)) j ⌝ }
 {
@@ -54,7 +54,7 @@ pub fn read_prices(prices: &[u8], j: usize, list: &mut [i64])
 }
 
 // The refusal of the first n prices of a stretch, 0 where there is none.
-pub fn prices_refusal(prices: &[u8], n: usize) -> u32
+fn prices_refusal(prices: &[u8], n: usize) -> u32
     requires { ⌜ 3 * n ≤ length (now prices) ⌝ }
     ensures { λ r. ⌜ r ≡ pricesRefusal (now (prices .entry)) n ⌝ }
 {
@@ -175,7 +175,7 @@ pub fn through_length(file: &[u8]) -> u32
 }
 
 // The order from the prices on.
-pub fn from_prices(file: &[u8]) -> u32
+fn from_prices(file: &[u8]) -> u32
     requires { ⌜ throughLength (now file) ≡ 0 ⌝ }
     ensures { λ r. ⌜ r ≡ fromPrices (now (file .entry)) ⌝ }
 {

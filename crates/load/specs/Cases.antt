@@ -1,4 +1,4 @@
--- Document 01's cases of load that are not marked P, computed. Assumes nothing.
+-- Document 01's cases of load that are not marked P, and where two reasons meet, computed. Assumes nothing.
 use mathlib.Core.Path.{_≡_, refl}
 use mathlib.Core.List.{[], _∷_}
 use lib.IntN.{pos, negℤ}
@@ -42,3 +42,17 @@ nowhere = refl
 pub passes : refusal case 192 ≡ 0
 unfolding sumTo sumN all allTo tab total cutDown remainder unitsLeft before place part parts contractAt counts lengths ranges identities areaTotals meters cover refusal
 passes = refl
+
+-- 6 before 8: a metered load of -1, and contracts beyond that
+six-first : refusal (given (pos 1) (pos 0) (pos 100 ∷ pos 200 ∷ pos 300 ∷ []) (negℤ (pos 1) ∷ []) [] (pos 1) (case .areaParts) (case .contracts) (case .tranches)) 192 ≡ 6
+unfolding sumTo sumN all allTo tab total cutDown remainder unitsLeft before place part parts contractAt counts lengths ranges identities areaTotals meters cover refusal
+six-first = refl
+
+-- "contracts at a bus exceed its load": 10 kW of 10 don't, 10 of 9 do
+as-large : refusal (given (pos 0) (pos 0) (pos 10 ∷ []) [] [] (pos 1) (pos 1000000 ∷ []) (pos 2 ∷ pos 0 ∷ pos 10 ∷ []) (replicate 64 (pos 0))) 64 ≡ 0
+unfolding sumTo sumN all allTo tab total cutDown remainder unitsLeft before place part parts contractAt counts lengths ranges identities areaTotals meters cover refusal
+as-large = refl
+
+larger : refusal (given (pos 0) (pos 0) (pos 9 ∷ []) [] [] (pos 1) (pos 1000000 ∷ []) (pos 2 ∷ pos 0 ∷ pos 10 ∷ []) (replicate 64 (pos 0))) 64 ≡ 8
+unfolding sumTo sumN all allTo tab total cutDown remainder unitsLeft before place part parts contractAt counts lengths ranges identities areaTotals meters cover refusal
+larger = refl

@@ -1,19 +1,10 @@
 -- Each public contract allows one result: two that it allows at the same arguments are equal. Assumes nothing.
 -- `F.Post` is the `ensures` of F, over lifetimes, arguments, result and what the lent lists hold at exit.
 use mathlib.Core.Path.{_≡_}
-use lib.IntN.{ℤ}
 use contract.Lifetimes.{Lfts}
 use Rattle.ints.proofs.Unique.{unique}
-use Rattle.numbers.proofs.number_at.Reads as number-at
-use Rattle.numbers.proofs.put_number.Reads as put-number
 use Rattle.numbers.proofs.read_all.Reads as read-all
 use Rattle.numbers.proofs.write_all.Reads as write-all
-
-pub number-at-unique : (κs : Lfts 1) (a : _) (r s : ℤ) (e f : _) → number-at.Post κs a r e → number-at.Post κs a s f → r ≡ s
-number-at-unique κs a r s e f p q = unique p q
-
-pub put-number-unique : (κs : Lfts 1) (a : _) (r s : _) (e f : _) → put-number.Post κs a r e → put-number.Post κs a s f → e .0 .now ≡ f .0 .now
-put-number-unique κs a r s e f p q = unique p q
 
 pub read-all-unique : (κs : Lfts 2) (a : _) (r s : _) (e f : _) → read-all.Post κs a r e → read-all.Post κs a s f → e .1 .0 .now ≡ f .1 .0 .now
 read-all-unique κs a r s e f p q = unique p q

@@ -59,7 +59,7 @@ fn to_bits(z: i64) -> u64
 }
 
 // The number at i of a list.
-pub fn number_at(s: &[u8], i: usize) -> i64
+fn number_at(s: &[u8], i: usize) -> i64
     requires { ⌜ 8 * i + 8 ≤ length (now s) ⌝ }
     ensures { λ r. ⌜ r ≡ numberAt (now (s .entry)) i ⌝ }
 {
@@ -67,7 +67,7 @@ pub fn number_at(s: &[u8], i: usize) -> i64
 }
 
 // The number at i of a list becomes z.
-pub fn put_number(out: &mut [u8], i: usize, z: i64)
+fn put_number(out: &mut [u8], i: usize, z: i64)
     requires { ⌜ 8 * i + 8 ≤ length (now out) ⌝ }
     ensures { λ _. ⌜ now (out .exit) ≡ withNumber (now (out .entry)) i z ⌝ }
 {
