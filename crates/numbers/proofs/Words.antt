@@ -7,14 +7,14 @@ use native.Mathlib.Omega.{arith}
 use lib.ListN.{length, getD, take, drop, set}
 use lib.Seq.{drop-cons}
 use Rattle.numbers.specs.Bytes.{lowestFirst, bytesOf}
-use Rattle.numbers.specs.Words.{weighted}
+use Rattle.numbers.specs.Words.{wordFrom}
 
 -- the lowest of the bytes from i on, and the others
 next : (s : List ℕ) (i j n : ℕ) → j ≡ suc i → i < length s → lowestFirst (take (suc n) (drop i s)) ≡ getD s i 0 + 256 * lowestFirst (take n (drop j s))
 unfolding lowestFirst
 next s i j n e h = ap (λ (l : List ℕ). lowestFirst (take (suc n) l)) (drop-cons s i 0 h) ∙ ap (λ (k : ℕ). getD s i 0 + 256 * lowestFirst (take n (drop k s))) (sym e)
 
-pub word-is : (s : List ℕ) (k : ℕ) → k + 8 ≤ length s → weighted s k ≡ lowestFirst (take 8 (drop k s))
+pub word-is : (s : List ℕ) (k : ℕ) → k + 8 ≤ length s → wordFrom s k ≡ lowestFirst (take 8 (drop k s))
 unfolding lowestFirst
 word-is s k h =
     omega (
@@ -23,10 +23,10 @@ word-is s k h =
       next s (k + 1) (k + 2) 6 (omega arith) (omega arith),
       next s (k + 2) (k + 3) 5 (omega arith) (omega arith),
       next s (k + 3) (k + 4) 4 (omega arith) (omega arith),
-      next s (k + 4) (k + 5) 3 (omega arith) (omega arith),
-      next s (k + 5) (k + 6) 2 (omega arith) (omega arith),
-      next s (k + 6) (k + 7) 1 (omega arith) (omega arith),
-      next s (k + 7) (k + 8) 0 (omega arith) (omega arith),
+      next s (k + 4) (k + 4 + 1) 3 (omega arith) (omega arith),
+      next s (k + 4 + 1) (k + 4 + 2) 2 (omega arith) (omega arith),
+      next s (k + 4 + 2) (k + 4 + 3) 1 (omega arith) (omega arith),
+      next s (k + 4 + 3) (k + 8) 0 (omega arith) (omega arith),
     )
 
 pub bytes-are : (u : ℕ) → bytesOf 8 u

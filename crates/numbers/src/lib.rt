@@ -1,24 +1,28 @@
 // A list of numbers in a slice of bytes: eight bytes each, two's complement, lowest byte first.
 ghost use mathlib.Core.Path.{_≡_};
-ghost use Prim.Native.Nat.{_+_, _*_, _≤_};
+ghost use Prim.Native.Nat.{_+_, _*_, _≤_, _<_};
 ghost use lib.ListN.{length};
 ghost use Rattle.ints.specs.Twos.{twos, bitsOf};
 ghost use Rattle.numbers.specs.Bytes.{bytesOf, numberAt, withNumber, numbers, encoded};
-ghost use Rattle.numbers.specs.Words.{weighted};
+ghost use Rattle.numbers.specs.Words.{fourFrom, wordFrom};
 
-// The eight bytes from k on, lowest first.
-fn word_at(s: &[u8], k: usize) -> u64
-    requires { ⌜ k + 8 ≤ length (now s) ⌝ }
-    ensures { λ r. ⌜ r ≡ weighted (now (s .entry)) k ⌝ }
+// The four bytes from k on, the lowest first.
+fn four_at(s: &[u8], k: usize) -> u64
+    requires { ⌜ k + 4 ≤ length (now s) ⌝ }
+    ensures { λ r. ⌜ r ≡ fourFrom (now (s .entry)) k × (r < 4294967296) ⌝ }
 {
     ints::wide(s[k])
         + 256 * ints::wide(s[k + 1])
         + 65536 * ints::wide(s[k + 2])
         + 16777216 * ints::wide(s[k + 3])
-        + 4294967296 * ints::wide(s[k + 4])
-        + 1099511627776 * ints::wide(s[k + 5])
-        + 281474976710656 * ints::wide(s[k + 6])
-        + 72057594037927936 * ints::wide(s[k + 7])
+}
+
+// The eight bytes from k on, the lowest first.
+fn word_at(s: &[u8], k: usize) -> u64
+    requires { ⌜ k + 8 ≤ length (now s) ⌝ }
+    ensures { λ r. ⌜ r ≡ wordFrom (now (s .entry)) k ⌝ }
+{
+    four_at(s, k) + 4294967296 * four_at(s, k + 4)
 }
 
 // A slice of eight bytes becomes those of u.
