@@ -1,25 +1,13 @@
--- Slices that are lists: read into the front of an array. Assumes nothing.
+-- A list read into the front of an array. Assumes nothing.
 use mathlib.Core.Path.{_≡_, sym, ap, _∙_}
-use mathlib.Core.Bool.{true}
 use mathlib.Core.List.{List, _++_}
-use Prim.Native.Nat.{ℕ, _/_, _%_, _≤_}
+use Prim.Native.Nat.{ℕ, _/_, _≤_}
 use native.Mathlib.Omega.{arith}
-use lib.Dec.{leb}
 use lib.IntN.{ℤ}
 use lib.ListN.{length, take, drop, length-append}
 use lib.Seq.{take-at}
-use borrow.Author.Tests.{leb-true, eqb-true}
-use Rattle.ints.proofs.Bools.{and-true}
 use Rattle.numbers.specs.Bytes.{numbers}
 use Rattle.numbers.proofs.Laws.{length-numbers}
-use Rattle.crossing.specs.Lists.{whole, listed}
-
-module _ (bytes most : ℕ) (e : listed bytes most ≡ true) where
-  pub is-whole : bytes % 8 ≡ 0
-  is-whole = eqb-true (bytes % 8) 0 (and-true (whole bytes) (leb (bytes / 8) most) e .0)
-
-  pub fits : bytes / 8 ≤ most
-  fits = leb-true (bytes / 8) most (and-true (whole bytes) (leb (bytes / 8) most) e .1)
 
 -- the front of a list into which another was read
 module _ (s : List ℕ) (old list : List ℤ) (e : list ≡ numbers s ++ drop (length s / 8) old) where

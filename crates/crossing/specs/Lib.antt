@@ -1,4 +1,1 @@
-pub mod Lists
 pub mod Load
-pub mod Hour
-pub mod Cases

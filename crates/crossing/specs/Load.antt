@@ -7,7 +7,7 @@ use lib.IntN.{ℤ}
 use lib.ListN.{length}
 use Rattle.numbers.specs.Bytes.{numbers}
 use Rattle.load.specs.Load.{Given, given}
-use Rattle.crossing.specs.Lists.{listed}
+use Rattle.numbers.specs.Lists.{listed}
 
 -- the lists that the slices stand for
 abbrev pub givenBytes : ℤ → ℤ → List ℕ → List ℕ → List ℕ → ℤ → List ℕ → List ℕ → List ℕ → Given

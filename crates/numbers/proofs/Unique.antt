@@ -1,8 +1,10 @@
 -- Each public contract allows one result: two that it allows at the same arguments are equal. Assumes nothing.
 -- `F.Post` is the `ensures` of F, over lifetimes, arguments, result and what the lent lists hold at exit.
 use mathlib.Core.Path.{_≡_}
+use mathlib.Core.Bool.{Bool}
 use contract.Lifetimes.{Lfts}
 use Rattle.ints.proofs.Unique.{unique}
+use Rattle.numbers.proofs.is_list.Reads as is-list
 use Rattle.numbers.proofs.read_all.Reads as read-all
 use Rattle.numbers.proofs.write_all.Reads as write-all
 
@@ -11,3 +13,6 @@ read-all-unique κs a r s e f p q = unique p q
 
 pub write-all-unique : (κs : Lfts 2) (a : _) (r s : _) (e f : _) → write-all.Post κs a r e → write-all.Post κs a s f → e .1 .0 .now ≡ f .1 .0 .now
 write-all-unique κs a r s e f p q = unique p q
+
+pub is-list-unique : (a : _) (r s : Bool) (e f : _) → is-list.Post tt a r e → is-list.Post tt a s f → r ≡ s
+is-list-unique a r s e f p q = unique p q

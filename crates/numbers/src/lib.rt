@@ -4,6 +4,7 @@ ghost use Prim.Native.Nat.{_+_, _*_, _≤_, _<_};
 ghost use lib.ListN.{length};
 ghost use Rattle.ints.specs.Twos.{twos, bitsOf};
 ghost use Rattle.numbers.specs.Bytes.{bytesOf, numberAt, withNumber, numbers, encoded};
+ghost use Rattle.numbers.specs.Lists.{listed};
 ghost use Rattle.numbers.specs.Words.{fourFrom, wordFrom};
 
 // The four bytes from k on, the lowest first.
@@ -102,4 +103,11 @@ pub fn write_all(list: &[i64], out: &mut [u8])
         put_number(out, i, list[i]);
         i += 1;
     }
+}
+
+// Whether so many bytes are whole numbers, and at most so many.
+pub fn is_list(bytes: usize, most: usize) -> bool
+    ensures { λ r. ⌜ r ≡ listed bytes most ⌝ }
+{
+    bytes % 8 == 0 && bytes / 8 <= most
 }

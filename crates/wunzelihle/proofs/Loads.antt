@@ -13,7 +13,7 @@ use Rattle.numbers.specs.Bytes.{numbers}
 use Rattle.numbers.proofs.Laws.{length-numbers}
 use Rattle.load.specs.Order.{refusal}
 use Rattle.load.proofs.Lengths.{too-long}
-use Rattle.crossing.specs.Lists.{whole, listed}
+use Rattle.numbers.specs.Lists.{whole, listed}
 use Rattle.crossing.specs.Load.{givenBytes, AllListed}
 use Rattle.wunzelihle.specs.Load.{loadRefusal}
 

@@ -7,7 +7,7 @@ use Rattle.ints.specs.Refusal.{unless, lent}
 use Rattle.numbers.specs.Bytes.{encoded}
 use Rattle.load.specs.Load.{assignment}
 use Rattle.load.specs.Order.{refusal}
-use Rattle.crossing.specs.Lists.{whole}
+use Rattle.numbers.specs.Lists.{whole}
 use Rattle.crossing.specs.Load.{givenBytes}
 
 -- "a list's slice that is no multiple of eight gets refusal 1, in the place of a list of the wrong length": `bytes` is the length of the slice lent for the result

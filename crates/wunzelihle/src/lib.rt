@@ -4,7 +4,7 @@ ghost use lib.ListN.{length};
 ghost use Rattle.ints.specs.Refusal.{lent};
 ghost use Rattle.numbers.specs.Bytes.{encoded};
 ghost use Rattle.hour.specs.Charges.{congestionCharges, lossCharges, credits, nets};
-ghost use Rattle.crossing.specs.Hour.{settleRefusal};
+ghost use Rattle.delivering.specs.Hour.{settleRefusal};
 ghost use Rattle.wunzelihle.specs.Split.{splitRefusal, splitOutcome};
 ghost use Rattle.wunzelihle.specs.Load.{loadRefusal, loadOutcome};
 
@@ -53,25 +53,25 @@ pub extern "C" fn wz_assign_load(
     ensures { λ r. ⌜ r ≡ loadRefusal metered distributor (now (loads .entry)) (now (imports .entry)) (now (generation .entry)) areas (now (millionths .entry)) (now (contracts .entry)) (now (tranches .entry)) (length (now (out .entry))) ⌝ }
     ensures { λ _. ⌜ now (out .exit) ≡ loadOutcome metered distributor (now (loads .entry)) (now (imports .entry)) (now (generation .entry)) areas (now (millionths .entry)) (now (contracts .entry)) (now (tranches .entry)) (now (out .entry)) ⌝ }
 {
-    if !crossing::is_list(loads.len(), 64) {
+    if !numbers::is_list(loads.len(), 64) {
         return 1;
     }
-    if !crossing::is_list(imports.len(), 64) {
+    if !numbers::is_list(imports.len(), 64) {
         return 1;
     }
-    if !crossing::is_list(generation.len(), 64) {
+    if !numbers::is_list(generation.len(), 64) {
         return 1;
     }
-    if !crossing::is_list(millionths.len(), 1024) {
+    if !numbers::is_list(millionths.len(), 1024) {
         return 1;
     }
-    if !crossing::is_list(contracts.len(), 768) {
+    if !numbers::is_list(contracts.len(), 768) {
         return 1;
     }
-    if !crossing::is_list(tranches.len(), 64) {
+    if !numbers::is_list(tranches.len(), 64) {
         return 1;
     }
-    if !crossing::is_list(out.len(), 4096) {
+    if !numbers::is_list(out.len(), 4096) {
         return 1;
     }
     crossing::assign_listed(
@@ -106,11 +106,11 @@ pub extern "C" fn wz_settle_hour(
     let mut loss_cents = [0i64; 64];
     let mut credit_cents = [0i64; 64];
     let mut net_cents = [0i64; 64];
-    let c = crossing::hourly_count(congestion.len());
-    let l = crossing::hourly_count(loss.len());
-    let k = crossing::hourly_count(credit.len());
-    let n = crossing::hourly_count(net.len());
-    crossing::settle_into(
+    let c = delivering::hourly_count(congestion.len());
+    let l = delivering::hourly_count(loss.len());
+    let k = delivering::hourly_count(credit.len());
+    let n = delivering::hourly_count(net.len());
+    delivering::settle_into(
         file,
         congestion,
         loss,

@@ -16,7 +16,8 @@ use Rattle.load.specs.Load.{Given, given, assignment}
 use Rattle.load.specs.Order.{refusal}
 use Rattle.load.proofs.Assigned.{length-assignment}
 use Rattle.crossing.specs.Load.{givenBytes}
-use Rattle.crossing.proofs.Lists.{is-whole, fits, front-is, front-long, front-length}
+use Rattle.numbers.proofs.Lists.{is-whole, fits}
+use Rattle.crossing.proofs.Lists.{front-is, front-long, front-length}
 use Rattle.crossing.proofs.assign_listed.Statement.{statement}
 use Rattle.crossing.proofs.assign_listed.Tie as tie
 

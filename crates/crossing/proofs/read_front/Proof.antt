@@ -1,5 +1,5 @@
 -- `crossing::read_front` meets its contract. Assumes nothing.
-use Rattle.crossing.proofs.Lists.{is-whole, fits}
+use Rattle.numbers.proofs.Lists.{is-whole, fits}
 use lib.Seq.{length-take-le}
 use lib.ListN.{length, drop}
 use lib.IntN.{ℤ}

@@ -7,7 +7,7 @@ use Rattle.ints.specs.Turn.{_then_}
 use Rattle.exercise.specs.File.{throughLength}
 use Rattle.hour.specs.Charges.{participants}
 use Rattle.hour.specs.Order.{outputs, restRefusal}
-use Rattle.crossing.specs.Lists.{listed}
+use Rattle.numbers.specs.Lists.{listed}
 
 -- "1 output lists not as long as the participants"; "a list's slice that is no multiple of eight gets refusal 1, in the place of a list of the wrong length":
 -- each of the four slices, of so many bytes, holds eight for each participant

@@ -16,9 +16,9 @@ use Rattle.exercise.proofs.Whole.{small}
 use Rattle.hour.specs.Charges.{participants}
 use Rattle.hour.specs.Order.{outputs, hourRefusal, restRefusal}
 use Rattle.hour.proofs.Parts.{some-participant}
-use Rattle.crossing.specs.Hour.{settleRefusal, hourly}
-use Rattle.crossing.specs.Lists.{listed}
-use Rattle.crossing.proofs.Lists.{is-whole}
+use Rattle.delivering.specs.Hour.{settleRefusal, hourly}
+use Rattle.numbers.specs.Lists.{listed}
+use Rattle.numbers.proofs.Lists.{is-whole}
 
 -- ---- a slice
 

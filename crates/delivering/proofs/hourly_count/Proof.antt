@@ -1,13 +1,13 @@
--- `crossing::hourly_count` meets its contract. Assumes nothing.
+-- `delivering::hourly_count` meets its contract. Assumes nothing.
 use mathlib.Core.Path.{sym, ap, _∙_}
 use mathlib.Core.Bool.{Bool}
 use Prim.Native.Nat.{_/_}
 use lib.Dec.{lit≤}
 use borrow.Author.Needs.{needs}
 use Rattle.ints.specs.Refusal.{pick}
-use Rattle.crossing.proofs.Lists.{fits}
-use Rattle.crossing.proofs.hourly_count.Statement.{statement}
-use Rattle.crossing.proofs.hourly_count.Tie as tie
+use Rattle.numbers.proofs.Lists.{fits}
+use Rattle.delivering.proofs.hourly_count.Statement.{statement}
+use Rattle.delivering.proofs.hourly_count.Tie as tie
 
 is-list-requires : tie.Need-is-list-requires
 is-list-requires c κs = search needs

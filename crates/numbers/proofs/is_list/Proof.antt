@@ -1,11 +1,11 @@
--- `crossing::is_list` meets its contract. Assumes nothing.
+-- `numbers::is_list` meets its contract. Assumes nothing.
 use Prim.Native.Nat.{_/_}
 use lib.Dec.{leb}
 use mathlib.Core.Bool.{Bool, _&&_}
 use mathlib.Core.Path.{sym, ap, _∙_}
 use borrow.Author.Tests.{eq-eqb, ne-eqb}
-use Rattle.crossing.proofs.is_list.Statement.{statement}
-use Rattle.crossing.proofs.is_list.Tie as tie
+use Rattle.numbers.proofs.is_list.Statement.{statement}
+use Rattle.numbers.proofs.is_list.Tie as tie
 
 returns : tie.Need-returns
 returns c = let s = c .before in sym (ap (λ (t : Bool). t && leb (s .args .bytes / 8) (s .args .most)) (eq-eqb _ _ (c .if1 .taken)))

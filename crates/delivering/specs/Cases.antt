@@ -18,7 +18,7 @@ use Rattle.tariff.specs.Tariff.{aheadAt, realAt, aheadPath, realPath, positions
 use Rattle.credits.specs.Paid.{paidRefusal}
 use Rattle.hour.specs.Charges.{surplus, shares}
 use Rattle.hour.specs.Order.{outputs}
-use Rattle.crossing.specs.Hour.{settleRefusal, hourly}
+use Rattle.delivering.specs.Hour.{settleRefusal, hourly}
 
 -- 1 participant, 1 location and nothing else, all prices 0 or the last 8,388,607
 

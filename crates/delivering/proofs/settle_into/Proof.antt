@@ -1,4 +1,4 @@
--- `crossing::settle_into` meets its contract. Assumes nothing.
+-- `delivering::settle_into` meets its contract. Assumes nothing.
 use mathlib.Core.Path.{_≡_, sym, ap, _∙_}
 use Prim.Native.Nat.{ℕ, _*_}
 use lib.ListN.{length}
@@ -6,10 +6,10 @@ use borrow.Author.Needs.{needs}
 use Rattle.ints.proofs.Refusals.{lent-result, lent-before}
 use Rattle.numbers.specs.Bytes.{encoded}
 use Rattle.hour.specs.Charges.{participants}
-use Rattle.crossing.specs.Hour.{settleRefusal, hourly}
-use Rattle.crossing.proofs.Hours.{settled-refusal, Bytes, bytes, numbers-in}
-use Rattle.crossing.proofs.settle_into.Statement.{statement}
-use Rattle.crossing.proofs.settle_into.Tie as tie
+use Rattle.delivering.specs.Hour.{settleRefusal, hourly}
+use Rattle.delivering.proofs.Hours.{settled-refusal, Bytes, bytes, numbers-in}
+use Rattle.delivering.proofs.settle_into.Statement.{statement}
+use Rattle.delivering.proofs.settle_into.Tie as tie
 
 -- the arguments, after the hour was settled
 abbrev given : tie.After-settle → tie.Start
