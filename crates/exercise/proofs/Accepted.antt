@@ -1,15 +1,16 @@
 -- What the order of refusals tells of a file that it accepts: all that the settling leans on. Assumes nothing.
 use mathlib.Core.Path.{_≡_}
 use mathlib.Core.List.{List, List·Memᴰ}
-use Prim.Native.Nat.{ℕ, _+_, _*_, _≤_}
+use Prim.Native.Nat.{ℕ, _+_, _*_, _≤_, _<_}
 use native.Mathlib.Omega.{arith}
 use Rattle.ints.specs.Number.{Within}
 use Rattle.ints.specs.Table.{_at_}
-use Rattle.ints.proofs.Turns.{then-none}
+use Rattle.ints.proofs.Turns.{then-none, turn-none}
+use Rattle.rows.specs.Row.{packedRow, rowSpare}
 use Rattle.rows.specs.Tested.{RowTested, TransactionTested}
 use Rattle.rows.specs.declared.Row.{Row}
 use Rattle.rows.specs.declared.Transaction.{Transaction}
-use Rattle.rows.proofs.Tested.{rows-tested, transactions-tested}
+use Rattle.rows.proofs.Tested.{row-spare, rows-tested, transactions-tested}
 use Rattle.exercise.specs.File.{header, priceCount, pricePart, rowPart, transactionPart, congestionAhead, congestionReal, lossAhead, lossReal, rows, transactions, fromPrices, fileRefusal}
 use Rattle.exercise.specs.Price.{pricesFrom}
 use Rattle.exercise.proofs.Prices.{prices-within}
@@ -22,6 +23,8 @@ pub record Tested (file : List ℕ) : Type 0 where
   pub loss-ahead : (i : ℕ) → Within (lossAhead file at i) 5000000
   pub loss-real : (i : ℕ) → Within (lossReal file at i) 5000000
   pub each-row : (r : Row) → List·Memᴰ r (rows file) → RowTested (header file .participants) (header file .locations) r
+  -- "All spare bits are 0", those of row i here
+  pub no-spare : (i : ℕ) → i < header file .rows → rowSpare (packedRow (rowPart file) i) ≡ 0
   pub each-transaction : (t : Transaction) → List·Memᴰ t (transactions file) → TransactionTested (header file .participants) (header file .locations) t
 
 pub tested : (file : List ℕ) → fromPrices file ≡ 0 → Tested file
@@ -37,6 +40,7 @@ tested file e =
       loss-ahead = in-range (13 * h .locations) (h .locations) (omega arith);
       loss-real = in-range (14 * h .locations) (12 * h .locations) (omega arith);
       each-row = rows-tested (h .participants) (h .locations) (rowPart file) (h .rows) (q .0);
+      no-spare = λ i l. row-spare (h .participants) (h .locations) _ _ (turn-none _ (h .rows) (q .0) i l);
       each-transaction = transactions-tested (h .participants) (h .locations) (transactionPart file) (h .transactions) (q .1);
     }
 

@@ -1,4 +1,4 @@
--- A file that passes the order to its length: it has exactly the length that its header says, and its parts lie one after the other. Assumes nothing.
+-- A file that passes the order to its length: its header's spare bits are 0, it has exactly the length that the header says, and its parts lie one after the other. Assumes nothing.
 use mathlib.Core.Path.{_≡_, sym, ap, _∙_, subst}
 use mathlib.Core.List.{List}
 use Prim.Native.Nat.{ℕ, _+_, _*_, _-_, _≤_}
@@ -27,6 +27,7 @@ unfolding placesOf
 laid h = record { first = omega arith; prices = omega arith; rows = omega arith; transactions = omega arith }
 
 pub record Whole (file : List ℕ) : Type 0 where
+  pub spare : header file .spare ≡ 0
   pub rows : header file .rows ≤ 2048
   pub transactions : header file .transactions ≤ 256
   pub begun : 5 ≤ length file
@@ -42,6 +43,7 @@ whole file e =
     let p4 = passed (leb (h .transactions) 256) 0 _ (p3 .1) in
     let p5 = passed (eqb (length file) (places file .end)) 8 0 (p4 .1) in
     record {
+      spare = eqb-true (h .spare) 0 (p2 .0);
       rows = leb-true (h .rows) 2048 (p3 .0);
       transactions = leb-true (h .transactions) 256 (p4 .0);
       begun = leb-true 5 (length file) (p1 .0);

@@ -45,23 +45,35 @@ interval-below (inr h) = h .1
 -- ---- a row, a transaction
 
 module _ (participants locations : ℕ) where
-  pub row-tested : (r : Row) (spare : ℕ) → r .market < 2 → rowRefusal participants locations r spare ≡ 0 → RowTested participants locations r
+  -- every test of a row's order is passed
+  row-passes : (r : Row) (spare : ℕ) → rowRefusal participants locations r spare ≡ 0
+      → (hasKind (r .market) (r .kind) ≡ true) × (hasInterval (r .market) (r .interval) ≡ true) × (ltb (r .participant) participants ≡ true)
+      × (ltb (r .location) locations ≡ true) × (leb (r .kw .0) 20000000 ≡ true) × (eqb spare 0 ≡ true)
   unfolding rowRefusal
-  row-tested r spare h e =
+  row-passes r spare e =
       let p1 = passed (hasKind (r .market) (r .kind)) 3 _ e in
       let p2 = passed (hasInterval (r .market) (r .interval)) 3 _ (p1 .1) in
       let p3 = passed (ltb (r .participant) participants) 2 _ (p2 .1) in
       let p4 = passed (ltb (r .location) locations) 2 _ (p3 .1) in
       let p5 = passed (leb (r .kw .0) 20000000) 1 _ (p4 .1) in
-      let k = kinds (r .market) (r .kind) (p1 .0) in
+      (p1 .0, p2 .0, p3 .0, p4 .0, p5 .0, passed (eqb spare 0) 8 0 (p5 .1) .0)
+
+  pub row-tested : (r : Row) (spare : ℕ) → r .market < 2 → rowRefusal participants locations r spare ≡ 0 → RowTested participants locations r
+  row-tested r spare h e =
+      let p = row-passes r spare e in
+      let k = kinds (r .market) (r .kind) (p .0) in
       record {
-        timed = timed (r .market) (r .interval) h (p2 .0);
+        timed = timed (r .market) (r .interval) h (p .1);
         kind = k .0;
         real = k .1;
-        participant = ltb-true (r .participant) participants (p3 .0);
-        location = ltb-true (r .location) locations (p4 .0);
-        kw = leb-true (r .kw .0) 20000000 (p5 .0);
+        participant = ltb-true (r .participant) participants (p .2);
+        location = ltb-true (r .location) locations (p .3);
+        kw = leb-true (r .kw .0) 20000000 (p .4);
       }
+
+  -- its spare bits are 0
+  pub row-spare : (r : Row) (spare : ℕ) → rowRefusal participants locations r spare ≡ 0 → spare ≡ 0
+  row-spare r spare e = eqb-true spare 0 (row-passes r spare e .5)
 
   pub transaction-tested : (t : Transaction) → t .market < 2 → transactionRefusal participants locations t ≡ 0 → TransactionTested participants locations t
   unfolding transactionRefusal
