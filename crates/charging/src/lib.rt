@@ -7,7 +7,6 @@ ghost use Rattle.ints.specs.Refusal.{lent};
 ghost use Rattle.ints.specs.Table.{tab};
 ghost use Rattle.rows.specs.Row.{rowsIn, rowsRefusal};
 ghost use Rattle.rows.specs.Transaction.{transactionsIn, transactionsRefusal};
-ghost use Rattle.exercise.specs.Price.{pricesFrom, pricesRefusal};
 ghost use Rattle.exercise.specs.File.{priceCount, rows, transactions, throughLength, fromPrices};
 ghost use Rattle.tariff.specs.Tariff.{priceList};
 ghost use Rattle.weights.specs.Given.{Listed, Tables};
@@ -229,19 +228,6 @@ fn charge_table(
 
 // ---- the parts of a file: prices, rows and transactions
 
-// All prices, read into a table, and their refusal, 0 where there is none.
-fn read_table(prices: &[u8], table: &mut [i64]) -> u32
-    requires { ⌜ 3 * length (now table) ≤ length (now prices) ⌝ }
-    ensures { λ r. ⌜ r ≡ pricesRefusal (now (prices .entry)) (length (now (table .entry))) ⌝ }
-    ensures { λ _. ⌜ now (table .exit) ≡ pricesFrom (now (prices .entry)) 0 (length (now (table .entry))) ⌝ }
-{
-    exercise::read_prices(prices, 0, table);
-    if ints::all_between(table, -5_000_000, 5_000_000) {
-        return 0;
-    }
-    2
-}
-
 // Charges these: prices first, then rows and transactions. Table and weights are made in the lists that are lent for them.
 fn charge_priced(
     header: Header,
@@ -263,7 +249,7 @@ fn charge_priced(
     ensures { λ r. ⌜ (r ≡ 0 → Charged (lossIn header (now (prices .entry))) (rowsIn (now (rows .entry)) (header .rows)) (transactionsIn (now (transactions .entry)) (header .transactions)) (now (lost .exit))) ⌝ }
     ensures { λ r. ⌜ (r ≡ 0 → Shared (rowsIn (now (rows .entry)) (header .rows)) (now (shares .exit))) ⌝ }
 {
-    let refusal = read_table(prices, table);
+    let refusal = prices::read_table(prices, table);
     if refusal != 0 {
         return refusal;
     }

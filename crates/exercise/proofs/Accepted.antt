@@ -12,8 +12,8 @@ use Rattle.rows.specs.declared.Row.{Row}
 use Rattle.rows.specs.declared.Transaction.{Transaction}
 use Rattle.rows.proofs.Tested.{row-spare, rows-tested, transactions-tested}
 use Rattle.exercise.specs.File.{header, priceCount, pricePart, rowPart, transactionPart, congestionAhead, congestionReal, lossAhead, lossReal, rows, transactions, fromPrices, fileRefusal}
-use Rattle.exercise.specs.Price.{pricesFrom}
-use Rattle.exercise.proofs.Prices.{prices-within}
+use Rattle.prices.specs.Price.{pricesFrom}
+use Rattle.prices.proofs.Prices.{prices-within}
 use Rattle.exercise.proofs.Whole.{Whole, whole}
 
 -- every price, row and transaction

@@ -1,4 +1,3 @@
-pub mod Prices
 pub mod Whole
 pub mod Reader
 pub mod Accepted

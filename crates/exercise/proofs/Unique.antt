@@ -7,19 +7,10 @@ use Rattle.ints.proofs.Unique.{unique}
 use Rattle.exercise.specs.declared.Header.{Header}
 use Rattle.exercise.specs.declared.Places.{Places}
 use Rattle.exercise.proofs.check.Reads as check
-use Rattle.exercise.proofs.interval_prices.Reads as interval-prices
 use Rattle.exercise.proofs.places_of.Reads as places-of
 use Rattle.exercise.proofs.read_header.Reads as read-header
-use Rattle.exercise.proofs.read_prices.Reads as read-prices
 use Rattle.exercise.proofs.rows_part.Reads as rows-part
 use Rattle.exercise.proofs.through_length.Reads as through-length
-
-pub read-prices-unique : (κs : Lfts 2) (a : _) (r s : _) (e f : _) → read-prices.Post κs a r e → read-prices.Post κs a s f → e .1 .1 .0 .now ≡ f .1 .1 .0 .now
-read-prices-unique κs a r s e f p q = unique p q
-
--- a part by its numbers and by where it lies: the block, and the place in it
-pub interval-prices-unique : (κs : Lfts 1) (a : _) (r s : _) (e f : _) → interval-prices.Post κs a r e → interval-prices.Post κs a s f → (r .now ≡ s .now) × (r .ptr .0 ≡ s .ptr .0) × (r .ptr .1 ≡ s .ptr .1)
-interval-prices-unique κs a r s e f p q = (unique (p .0) (q .0), unique (p .1 .0) (q .1 .0), unique (p .1 .1) (q .1 .1))
 
 pub read-header-unique : (κs : Lfts 1) (a : _) (r s : Header) (e f : _) → read-header.Post κs a r e → read-header.Post κs a s f → r ≡ s
 read-header-unique κs a r s e f p q = unique p q

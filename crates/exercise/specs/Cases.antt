@@ -10,7 +10,7 @@ use Rattle.rows.specs.Packed.{bytesAt}
 use Rattle.rows.specs.Row.{rowRefusal}
 use Rattle.rows.specs.Transaction.{transactionRefusal}
 use Rattle.exercise.specs.File.{header, placesOf, places, congestionAhead, congestionReal, lossAhead, lossReal, rows, transactions, headerRefusal, throughLength, fromPrices, fileRefusal, stretch, stretchStart}
-use Rattle.exercise.specs.Price.{priceAt, priceRefusal}
+use Rattle.prices.specs.Price.{priceAt, priceRefusal}
 
 -- so many times the same bytes
 abbrev pub times : ℕ → List ℕ → List ℕ

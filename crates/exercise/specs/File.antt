@@ -12,7 +12,7 @@ use Rattle.rows.specs.Row.{rowSize, rowsIn, rowsRefusal}
 use Rattle.rows.specs.Transaction.{transactionSize, transactionsIn, transactionsRefusal}
 use Rattle.rows.specs.declared.Row.{Row}
 use Rattle.rows.specs.declared.Transaction.{Transaction}
-use Rattle.exercise.specs.Price.{priceSize, pricesFrom, pricesRefusal}
+use Rattle.prices.specs.Price.{priceSize, pricesFrom, pricesRefusal}
 use Rattle.exercise.specs.declared.Header.{Header}
 use Rattle.exercise.specs.declared.Places.{Places}
 

@@ -1,3 +1,2 @@
-pub mod Price
 pub mod File
 pub mod Cases

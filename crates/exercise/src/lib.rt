@@ -1,10 +1,8 @@
-// The packed exercise file (document 01, "The exercise file"): its prices, its header, its check and its reader. Rows and transactions are decoded in `rows`.
+// The packed exercise file (document 01, "The exercise file"): its header, its check and its reader. Prices are read in `prices`, rows and transactions decoded in `rows`.
 ghost use mathlib.Core.Path.{_≡_};
 ghost use Prim.Native.Nat.{_+_, _*_, _≤_, _<_};
 ghost use lib.ListN.{length};
-ghost use Rattle.ints.specs.Twos.{twos};
 ghost use Rattle.rows.specs.Packed.{bytesAt};
-ghost use Rattle.exercise.specs.Price.{priceAt, pricesFrom, pricesRefusal, intervalOf};
 ghost use Rattle.exercise.specs.File.{headerOf, header, Small, placesOf, headerRefusal, throughLength, fromPrices, fileRefusal, stretch, stretchStart};
 pub use rows::DecodedRow;
 pub use rows::DecodedTransaction;
@@ -16,72 +14,6 @@ pub use rows::row_at;
 pub use rows::row_number;
 pub use rows::transaction_at;
 pub use rows::transaction_number;
-use units::Mills;
-
-// ---- prices
-
-// The number of 24 bits. `!x` is -x - 1.
-fn from_bits(u: u64) -> i64
-    requires { ⌜ u < 16777216 ⌝ }
-    ensures { λ r. ⌜ r ≡ twos 24 u ⌝ }
-{
-    if u < 8388608 {
-        u as i64
-    } else {
-        !((16777215 - u) as i64)
-    }
-}
-
-// Price j of a stretch of prices.
-fn price_at(prices: &[u8], j: usize) -> Mills
-    requires { ⌜ 3 * j + 3 ≤ length (now prices) ⌝ }
-    ensures { λ r. ⌜ r .0 ≡ priceAt (now (prices .entry)) j ⌝ }
-{
-    Mills(from_bits(rows::three_at(prices, 3 * j)))
-}
-
-// A list of prices, read from price j of a stretch on.
-pub fn read_prices(prices: &[u8], j: usize, list: &mut [i64])
-    requires { ⌜ 3 * (j + length (now list)) ≤ length (now prices) ⌝ }
-    ensures { λ _. ⌜ now (list .exit) ≡ pricesFrom (now (prices .entry)) j (length (now (list .entry))) ⌝ }
-{
-    let mut i: usize = 0;
-    while i < list.len() {
-        let price = price_at(prices, j + i).0;
-        list[i] = price;
-        i += 1;
-    }
-}
-
-// The refusal of the first n prices of a stretch, 0 where there is none.
-fn prices_refusal(prices: &[u8], n: usize) -> u32
-    requires { ⌜ 3 * n ≤ length (now prices) ⌝ }
-    ensures { λ r. ⌜ r ≡ pricesRefusal (now (prices .entry)) n ⌝ }
-{
-    let mut j: usize = 0;
-    while j < n {
-        let price = price_at(prices, j).0;
-        if !ints::is_between(price, -5_000_000, 5_000_000) {
-            return 2;
-        }
-        j += 1;
-    }
-    0
-}
-
-// "Each interval's prices are read from their own stretch of the list": interval k's, which starts at k times locations.
-pub fn interval_prices(prices: &[i64], locations: usize, k: usize) -> &[i64]
-    requires { ⌜ (k < 12) × (12 * locations ≤ length (now prices)) ⌝ }
-    ensures numbers { λ r. ⌜ now r ≡ intervalOf (now (prices .entry)) locations k ⌝ }
-    ensures block { λ r. ⌜ r .ptr .0 ≡ prices .entry .ptr .0 ⌝ }
-    ensures place { λ r. ⌜ r .ptr .1 ≡ k * locations * 8 + prices .entry .ptr .1 ⌝ }
-{
-    let from = k * locations;
-    let to = from + locations;
-    &prices[from..to]
-}
-
-// ---- the file
 
 // The counts of the header, and its spare bits.
 pub struct Header {
@@ -185,7 +117,7 @@ fn from_prices(file: &[u8]) -> u32
     let rows_at = places.rows;
     let transactions_at = places.transactions;
     let end = places.end;
-    let refusal = prices_refusal(&file[prices_at..rows_at], 26 * header.locations);
+    let refusal = prices::prices_refusal(&file[prices_at..rows_at], 26 * header.locations);
     if refusal != 0 {
         return refusal;
     }

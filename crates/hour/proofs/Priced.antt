@@ -1,23 +1,18 @@
--- All prices of a stretch, read into one table: tested there, and cut into the day-ahead and real-time prices of congestion and of losses. Assumes nothing.
+-- A table of all prices, cut into the day-ahead and real-time prices of congestion and of losses. Assumes nothing.
 use mathlib.Core.Path.{_≡_, sym, ap, ap₂, _∙_, subst}
-use mathlib.Core.Bool.{Bool}
 use mathlib.Core.List.{List}
-use Prim.Native.Nat.{ℕ, _+_, _*_, _-_, _≤_, _<_}
+use Prim.Native.Nat.{ℕ, _+_, _*_, _-_, _≤_}
 use native.Mathlib.Omega.{arith}
-use lib.IntN.{ℤ, pos, negℤ}
+use lib.IntN.{ℤ}
 use lib.ListN.{length, take, drop, length-drop}
-use lib.Seq.{length-take-le, getD-take, getD-drop, ext-getD}
-use Rattle.ints.specs.Number.{between}
+use lib.Seq.{length-take-le}
 use Rattle.ints.specs.Range.{InRange}
-use Rattle.ints.specs.Refusal.{unless}
-use Rattle.ints.specs.Table.{_at_, tab, all}
-use Rattle.ints.proofs.Eachs.{turn-all}
+use Rattle.ints.specs.Table.{_at_, all}
 use Rattle.ints.proofs.Ranges.{cut-range}
-use Rattle.ints.proofs.Tables.{length-tab, getD-tab, tab-ext}
 use Rattle.rows.specs.declared.Row.{Row}
 use Rattle.rows.specs.declared.Transaction.{Transaction}
-use Rattle.exercise.specs.Price.{priceAt, pricesFrom, priceRefusal, pricesRefusal}
-use Rattle.exercise.proofs.Prices.{prices-within}
+use Rattle.prices.specs.Price.{pricesFrom, pricesRefusal}
+use Rattle.prices.proofs.Prices.{prices-within, cut}
 use Rattle.tariff.specs.Tariff.{Prices, priceList}
 use Rattle.weights.specs.Given.{Listed}
 use Rattle.hour.specs.Given.{congestionCut, lossCut, Charged}
@@ -25,35 +20,6 @@ use Rattle.hour.specs.Given.{congestionCut, lossCut, Charged}
 -- the numbers from one place to another
 between-places : (table : List ℤ) (j m to : ℕ) → to ≡ j + m → take (to - j) (drop j table) ≡ take m (drop j table)
 between-places table j m to e = let d : to - j ≡ m = omega arith in ap (λ (n : ℕ). take n (drop j table)) d
-
--- ---- the test
-
-abbrev pub inRange : ℤ → Bool
-inRange = between (negℤ (pos 5000000)) (pos 5000000)
-
-module _ (prices : List ℕ) (n : ℕ) (table : List ℤ) (e : table ≡ pricesFrom prices 0 n) where
-  from-start : table ≡ tab (priceAt prices) n
-  from-start = e ∙ tab-ext (λ i. priceAt prices (0 + i)) (priceAt prices) n (λ i _. ap (priceAt prices) (omega arith))
-
-  pub table-refusal : unless (all inRange table) 2 0 ≡ pricesRefusal prices n
-  unfolding priceRefusal
-  table-refusal = ap (λ (xs : List ℤ). unless (all inRange xs) 2 0) from-start ∙ sym (turn-all inRange (priceAt prices) 1 n)
-
-  -- ---- the cuts
-
-  table-length : length table ≡ n
-  table-length = ap length e ∙ length-tab (λ i. priceAt prices (0 + i)) n
-
-  pub cut : (j m : ℕ) → j + m ≤ n → take m (drop j table) ≡ pricesFrom prices j m
-  cut j m h =
-      ext-getD (pos 0) (take m (drop j table)) (pricesFrom prices j m) (long ∙ sym (length-tab (λ i. priceAt prices (j + i)) m))
-      (λ i l. let k : i < m = omega (arith, long) in
-      getD-take m (drop j table) i (pos 0) k ∙ getD-drop j table i (pos 0)
-      ∙ ap (λ (xs : List ℤ). xs at (j + i)) from-start ∙ getD-tab (priceAt prices) (pos 0) n (j + i) (omega arith)
-      ∙ sym (getD-tab (λ i. priceAt prices (j + i)) (pos 0) m i k))
-    where
-      long : length (take m (drop j table)) ≡ m
-      long = length-take-le m (drop j table) (omega (arith, length-drop j table, table-length))
 
 -- ---- the price lists of a table
 

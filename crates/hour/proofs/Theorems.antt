@@ -23,7 +23,7 @@ use Rattle.rows.specs.Transaction.{transactionAt}
 use Rattle.rows.specs.declared.Row.{Row}
 use Rattle.rows.specs.declared.Transaction.{Transaction}
 use Rattle.exercise.specs.File.{header, rows, transactions, priceCount, pricePart, rowPart, transactionPart, congestionAhead, congestionReal, lossAhead, lossReal, throughLength, fromPrices}
-use Rattle.exercise.specs.Price.{pricesRefusal}
+use Rattle.prices.specs.Price.{pricesRefusal}
 use Rattle.exercise.proofs.Accepted.{tested}
 use Rattle.exercise.proofs.Whole.{small, whole}
 use Rattle.tariff.specs.Parts.{aheadWeight, ownRows, ownTransactions}

@@ -13,7 +13,7 @@ use Rattle.rows.specs.Row.{rowRefusal}
 use Rattle.rows.specs.Transaction.{transactionRefusal}
 use Rattle.exercise.specs.Cases.{times, statement}
 use Rattle.exercise.specs.File.{header, placesOf, headerRefusal, throughLength, fromPrices}
-use Rattle.exercise.specs.Price.{priceRefusal}
+use Rattle.prices.specs.Price.{priceRefusal}
 use Rattle.tariff.specs.Tariff.{aheadAt, realAt, aheadPath, realPath, positions, paths, charge}
 use Rattle.credits.specs.Paid.{paidRefusal}
 use Rattle.hour.specs.Charges.{surplus, shares, congestionCharges, lossCharges, credits, nets}

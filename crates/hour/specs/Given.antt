@@ -12,7 +12,7 @@ use Rattle.rows.specs.Transaction.{transactionsIn, transactionsRefusal}
 use Rattle.rows.specs.declared.Row.{Row}
 use Rattle.rows.specs.declared.Transaction.{Transaction}
 use Rattle.exercise.specs.File.{priceCount}
-use Rattle.exercise.specs.Price.{pricesFrom, pricesRefusal}
+use Rattle.prices.specs.Price.{pricesFrom, pricesRefusal}
 use Rattle.exercise.specs.declared.Header.{Header}
 use Rattle.tariff.specs.Tariff.{Prices, priceList, charge}
 use Rattle.credits.specs.Facts.{Natural}

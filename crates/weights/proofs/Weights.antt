@@ -18,7 +18,7 @@ use Rattle.ints.proofs.Sizes.{w-sub, w-mul, w-lit, w-up}
 use Rattle.ints.proofs.Sums.{sumTo-zero, sumTo-next, sumTo-abs}
 use Rattle.ints.proofs.Tables.{length-tab, getD-tab, tab-ext}
 use Rattle.units.specs.Units.{wholeHour}
-use Rattle.exercise.specs.Price.{intervalOf}
+use Rattle.prices.specs.Price.{intervalOf}
 use Rattle.tariff.specs.Parts.{aheadWeight, weightIn}
 use Rattle.tariff.specs.Tariff.{Prices, priceList, P, C}
 use Rattle.weights.specs.Given.{Listed, Tables}

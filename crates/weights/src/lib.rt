@@ -64,7 +64,7 @@ pub fn weigh(ahead: &[i64], real: &[i64], weights: &mut [i64])
     put_ahead(ahead, weights);
     let mut k: usize = 0;
     while k < 12 {
-        take_interval(exercise::interval_prices(real, weights.len(), k), weights);
+        take_interval(prices::interval_prices(real, weights.len(), k), weights);
         k += 1;
     }
 }
@@ -96,7 +96,7 @@ pub fn weight_of(
         return price_at(weights, l);
     }
     price_at(
-        exercise::interval_prices(real, locations, interval as usize),
+        prices::interval_prices(real, locations, interval as usize),
         l,
     )
 }

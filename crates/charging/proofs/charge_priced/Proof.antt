@@ -5,7 +5,7 @@ use Prim.Native.Nat.{ℕ, _*_}
 use lib.IntN.{ℤ}
 use borrow.Author.Needs.{needs}
 use Rattle.ints.proofs.Turns.{then-ends, then-follows}
-use Rattle.exercise.specs.Price.{pricesFrom, pricesRefusal}
+use Rattle.prices.specs.Price.{pricesFrom, pricesRefusal}
 use Rattle.hour.proofs.Priced.{congestion-is, loss-is, table-range, at-prices}
 use Rattle.charging.proofs.charge_priced.Statement.{statement}
 use Rattle.charging.proofs.charge_priced.Tie as tie

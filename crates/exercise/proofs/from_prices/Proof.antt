@@ -8,7 +8,7 @@ use Rattle.ints.proofs.Turns.{then-ends, then-follows}
 use Rattle.rows.specs.Row.{rowsRefusal}
 use Rattle.rows.specs.Transaction.{transactionsRefusal}
 use Rattle.exercise.specs.File.{priceCount, part, fromPrices}
-use Rattle.exercise.specs.Price.{pricesRefusal}
+use Rattle.prices.specs.Price.{pricesRefusal}
 use Rattle.exercise.specs.declared.Header.{Header}
 use Rattle.exercise.specs.declared.Places.{Places}
 use Rattle.exercise.proofs.Whole.{Found, found, whole, small-read}

@@ -9,7 +9,7 @@ use borrow.Author.Needs.{needs}
 use Rattle.ints.specs.Range.{InRange}
 use Rattle.ints.specs.Table.{tab}
 use Rattle.ints.proofs.Tables.{length-tab}
-use Rattle.exercise.specs.Price.{intervalOf}
+use Rattle.prices.specs.Price.{intervalOf}
 use Rattle.tariff.specs.Parts.{aheadWeight}
 use Rattle.tariff.specs.Tariff.{priceList}
 use Rattle.weights.specs.Given.{Listed}

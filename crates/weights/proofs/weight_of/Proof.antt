@@ -10,7 +10,7 @@ use borrow.Author.Needs.{needs}
 use borrow.Author.Tests.{eq-eqb, ne-eqb}
 use Rattle.ints.specs.Table.{_at_}
 use Rattle.ints.proofs.Ranges.{room}
-use Rattle.exercise.specs.Price.{intervalOf}
+use Rattle.prices.specs.Price.{intervalOf}
 use Rattle.weights.proofs.weight_of.Statement.{statement}
 use Rattle.weights.proofs.weight_of.Tie as tie
 

@@ -1,11 +1,11 @@
--- `charging::read_table` meets its contract. Assumes nothing.
+-- `prices::read_table` meets its contract. Assumes nothing.
 use mathlib.Core.Path.{sym, ap, _∙_}
 use mathlib.Core.Bool.{Bool}
 use borrow.Author.Needs.{needs}
 use Rattle.ints.specs.Refusal.{unless}
-use Rattle.hour.proofs.Priced.{table-refusal}
-use Rattle.charging.proofs.read_table.Statement.{statement}
-use Rattle.charging.proofs.read_table.Tie as tie
+use Rattle.prices.proofs.Prices.{table-refusal}
+use Rattle.prices.proofs.read_table.Statement.{statement}
+use Rattle.prices.proofs.read_table.Tie as tie
 
 read-prices-requires : tie.Need-read-prices-requires
 read-prices-requires c κs = search needs

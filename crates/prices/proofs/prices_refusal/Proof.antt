@@ -1,4 +1,4 @@
--- `exercise::prices_refusal` meets its contract. Assumes nothing.
+-- `prices::prices_refusal` meets its contract. Assumes nothing.
 use mathlib.Core.Path.{_≡_, sym, ap, _∙_}
 use mathlib.Core.Bool.{Bool, true, false}
 use Prim.Native.Nat.{_-_, _≤_}
@@ -11,9 +11,9 @@ use borrow.Author.Tests.{not-true, not-false}
 use Rattle.ints.specs.Number.{between}
 use Rattle.ints.specs.Refusal.{unless}
 use Rattle.ints.proofs.Turns.{turn-start, turn-next, turn-first}
-use Rattle.exercise.specs.Price.{priceAt, priceRefusal, pricesRefusal}
-use Rattle.exercise.proofs.prices_refusal.Statement.{statement}
-use Rattle.exercise.proofs.prices_refusal.Tie as tie
+use Rattle.prices.specs.Price.{priceAt, priceRefusal, pricesRefusal}
+use Rattle.prices.proofs.prices_refusal.Statement.{statement}
+use Rattle.prices.proofs.prices_refusal.Tie as tie
 
 module _ (price : ℤ) where
   inside : between (negℤ (pos 5000000)) (pos 5000000) price ≡ true → priceRefusal price ≡ 0

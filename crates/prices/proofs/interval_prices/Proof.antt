@@ -1,12 +1,12 @@
--- `exercise::interval_prices` meets its contract. Assumes nothing.
+-- `prices::interval_prices` meets its contract. Assumes nothing.
 use mathlib.Core.Path.{_≡_, refl, ap}
 use Prim.Native.Nat.{ℕ, _+_, _*_, _-_, _≤_}
 use native.Mathlib.Omega.{arith}
 use lib.ListN.{take, drop}
 use borrow.Author.Needs.{needs}
 use Rattle.ints.proofs.Ranges.{room}
-use Rattle.exercise.proofs.interval_prices.Statement.{statement}
-use Rattle.exercise.proofs.interval_prices.Tie as tie
+use Rattle.prices.proofs.interval_prices.Statement.{statement}
+use Rattle.prices.proofs.interval_prices.Tie as tie
 
 inside : (c : tie.Start) → c .args .k * c .args .locations + c .args .locations ≤ 12 * c .args .locations
 inside c = room (c .args .k) 12 (c .args .locations) (c .pre .0)

@@ -1,4 +1,4 @@
--- `exercise::from_bits` meets its contract. Assumes nothing.
+-- `prices::from_bits` meets its contract. Assumes nothing.
 use mathlib.Core.Path.{_≡_, ap, _∙_}
 use Prim.Native.Nat.{suc, _-_, _^_}
 use native.Mathlib.Omega.{arith}
@@ -8,8 +8,8 @@ use mir.Val.{toZ}
 use mir.Facts.{toZ-pos, toZ-neg}
 use borrow.Author.Needs.{needs}
 use borrow.Author.Tests.{lt-ltb, le-ltb}
-use Rattle.exercise.proofs.from_bits.Statement.{statement}
-use Rattle.exercise.proofs.from_bits.Tie as tie
+use Rattle.prices.proofs.from_bits.Statement.{statement}
+use Rattle.prices.proofs.from_bits.Tie as tie
 
 cast-result : tie.Need-cast-result
 cast-result c = search needs

@@ -1,4 +1,4 @@
--- `exercise::read_prices` meets its contract. Assumes nothing.
+-- `prices::read_prices` meets its contract. Assumes nothing.
 use mathlib.Core.Path.{_≡_, ap, _∙_}
 use Prim.Native.Nat.{ℕ, _+_, _-_, _≤_}
 use native.Mathlib.Omega.{arith}
@@ -9,9 +9,9 @@ use mir.Facts.{toZ-ofZ}
 use borrow.Author.Needs.{needs, sfits-of}
 use Rattle.ints.specs.Table.{tab}
 use Rattle.ints.proofs.Tables.{tab-none, tab-store, tab-done}
-use Rattle.exercise.specs.Price.{priceAt, pricesFrom}
-use Rattle.exercise.proofs.read_prices.Statement.{statement}
-use Rattle.exercise.proofs.read_prices.Tie as tie
+use Rattle.prices.specs.Price.{priceAt, pricesFrom}
+use Rattle.prices.proofs.read_prices.Statement.{statement}
+use Rattle.prices.proofs.read_prices.Tie as tie
 
 abbrev Inv-loop : tie.InvT-loop
 Inv-loop prices j list₀ i₀ list i = (i ≤ length list₀) × (length list ≡ length list₀) × (take i list ≡ pricesFrom prices j i)

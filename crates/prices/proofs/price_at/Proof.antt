@@ -1,10 +1,10 @@
--- `exercise::price_at` meets its contract. Assumes nothing.
+-- `prices::price_at` meets its contract. Assumes nothing.
 use mathlib.Core.Path.{ap, _∙_}
 use mir.Facts.{toZ-ofZ}
 use borrow.Author.Needs.{sfits-of, needs}
 use Rattle.ints.specs.Twos.{twos}
-use Rattle.exercise.proofs.price_at.Statement.{statement}
-use Rattle.exercise.proofs.price_at.Tie as tie
+use Rattle.prices.proofs.price_at.Statement.{statement}
+use Rattle.prices.proofs.price_at.Tie as tie
 
 mul-three-at : tie.Need-mul-three-at
 mul-three-at c = search needs

@@ -1,0 +1,19 @@
+-- Each public contract allows one result: two that it allows at the same arguments are equal. Assumes nothing.
+-- `F.Post` is the `ensures` of F, over lifetimes, arguments, result and what the lent lists hold at exit.
+use mathlib.Core.Path.{_≡_}
+use Prim.Native.Nat.{ℕ}
+use contract.Lifetimes.{Lfts}
+use Rattle.ints.proofs.Unique.{unique}
+use Rattle.prices.proofs.interval_prices.Reads as interval-prices
+use Rattle.prices.proofs.prices_refusal.Reads as prices-refusal
+use Rattle.prices.proofs.read_table.Reads as read-table
+
+-- a part by its numbers and by where it lies: the block, and the place in it
+pub interval-prices-unique : (κs : Lfts 1) (a : _) (r s : _) (e f : _) → interval-prices.Post κs a r e → interval-prices.Post κs a s f → (r .now ≡ s .now) × (r .ptr .0 ≡ s .ptr .0) × (r .ptr .1 ≡ s .ptr .1)
+interval-prices-unique κs a r s e f p q = (unique (p .0) (q .0), unique (p .1 .0) (q .1 .0), unique (p .1 .1) (q .1 .1))
+
+pub prices-refusal-unique : (κs : Lfts 1) (a : _) (r s : ℕ) (e f : _) → prices-refusal.Post κs a r e → prices-refusal.Post κs a s f → r ≡ s
+prices-refusal-unique κs a r s e f p q = unique p q
+
+pub read-table-unique : (κs : Lfts 2) (a : _) (r s : ℕ) (e f : _) → read-table.Post κs a r e → read-table.Post κs a s f → (r ≡ s) × (e .1 .0 .now ≡ f .1 .0 .now)
+read-table-unique κs a r s e f p q = (unique (p .0) (q .0), unique (p .1) (q .1))
