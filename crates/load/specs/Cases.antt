@@ -38,6 +38,19 @@ pub nowhere : meters (pos 1) (pos 0 ∷ pos 0 ∷ []) (pos 1 ∷ []) [] ≡ 7
 unfolding sumTo sumN total meters
 nowhere = refl
 
+-- "metered load is below 0 or above 20,000,000"
+metered-most : meters (pos 1) (pos 1 ∷ []) (pos 20000000 ∷ []) [] ≡ 0
+unfolding sumTo sumN total meters
+metered-most = refl
+
+metered-above : meters (pos 1) (pos 1 ∷ []) (pos 20000000 ∷ []) (pos 1 ∷ []) ≡ 6
+unfolding sumTo sumN total meters
+metered-above = refl
+
+metered-below : meters (pos 1) (pos 1 ∷ []) (negℤ (pos 1) ∷ []) [] ≡ 6
+unfolding sumTo sumN total meters
+metered-below = refl
+
 -- that distributor's assignment is accepted
 pub passes : refusal case 192 ≡ 0
 unfolding sumTo sumN all allTo tab total cutDown remainder unitsLeft before place part parts contractAt counts lengths ranges identities areaTotals meters cover refusal
