@@ -1,5 +1,5 @@
 //! Links the archives from the folder that ENGINE names, again whenever one
-//! changes: libwunzelihle.a, and libprobe.a for the check.
+//! changes: libwunzelihle.a, and libexercise_probe.a for the check.
 
 fn main() {
     let folder = std::env::var("ENGINE").expect("ENGINE is the folder of libwunzelihle.a");
@@ -7,7 +7,7 @@ fn main() {
     println!("cargo:rerun-if-env-changed=ENGINE");
     link(&folder, "wunzelihle");
     if std::env::var_os("CARGO_FEATURE_CHECK").is_some() {
-        link(&folder, "probe");
+        link(&folder, "exercise_probe");
     }
 }
 

@@ -122,7 +122,8 @@ uint32_t wz_split(int64_t amount,
  *                areas times buses numbers
  *   contracts    three numbers for each contract: supplier (a participant, 0
  *                to 63), area (counted from 0) and kW (0 to 20,000,000); 0 to
- *                256 contracts, so contracts_len is 0 to 6,144 by 24
+ *                256 contracts, so contracts_len is a multiple of 24 up to
+ *                6,144
  *   tranches     a number for each participant: tranches won, 0 to 10,000; 64
  *                numbers, so tranches_len is 512
  *   out          written: kW of each participant at each bus, participant by
@@ -188,8 +189,8 @@ uint32_t wz_assign_load(int64_t metered, int64_t distributor,
  *   net         written: each participant's two charges less its credit
  *
  * The four lists are in cents and have a number for each participant of the
- * file, 1 to 64 (the file's first six bits, and 1), so each length is 8 to 512. A charge below 0 is paid out, and
- * a credit below 0 is taken.
+ * file, 1 to 64 (the file's first six bits, plus 1), so each length is 8 to
+ * 512. A charge below 0 is paid out, and a credit below 0 is taken.
  *
  * The file is packed, the most significant bit first, without gaps:
  *

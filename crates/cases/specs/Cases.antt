@@ -7,21 +7,21 @@ use lib.ListN.{length}
 use Rattle.ints.specs.Sum.{sumTo, sumN}
 use Rattle.ints.specs.Table.{tab, all}
 use Rattle.units.specs.Units.{centsOf}
-use Rattle.split.specs.Split.{total, cutDown, remainder, unitsLeft, before, place, part, parts, refusal}
+use Rattle.split.specs.Split.{total, cutDown, remainder, unitsLeft, before, place, part, parts, splitRefusal}
 use Rattle.load.specs.Load.{busLoads}
-use Rattle.load.specs.Order.{meters}
+use Rattle.load.specs.Order.{metersRefusal}
 
 -- an amount over shares is accepted and has these parts
 abbrev Splits : ℤ → List ℤ → List ℤ → Type 0
-Splits amount shares result = (refusal amount shares (length shares) ≡ 0) × (parts amount shares ≡ result)
+Splits amount shares result = (splitRefusal amount shares (length shares) ≡ 0) × (parts amount shares ≡ result)
 
 -- an amount over shares is refused
 abbrev Refuses : ℤ → List ℤ → ℕ → Type 0
-Refuses amount shares number = refusal amount shares (length shares) ≡ number
+Refuses amount shares number = splitRefusal amount shares (length shares) ≡ number
 
 -- a metered distributor's estimator loads, imports and generation are accepted and give these loads at the buses
 abbrev Metered : List ℤ → List ℤ → List ℤ → List ℤ → Type 0
-Metered loads imports generation result = (meters (pos 1) loads imports generation ≡ 0) × (busLoads (pos 1) loads imports generation ≡ result)
+Metered loads imports generation result = (metersRefusal (pos 1) loads imports generation ≡ 0) × (busLoads (pos 1) loads imports generation ≡ result)
 
 pub record Cases : Type 0 where
   -- "P1 10 over 1,1,1 is 4,3,3."
@@ -50,5 +50,5 @@ pub record Cases : Type 0 where
   pub P12 : Metered (pos 100 ∷ pos 200 ∷ pos 300 ∷ []) (pos 601 ∷ []) [] (pos 100 ∷ pos 200 ∷ pos 301 ∷ [])
 
 pub cases : Cases
-unfolding refusal parts part total cutDown remainder unitsLeft before place sumN sumTo tab all centsOf meters
+unfolding splitRefusal parts part total cutDown remainder unitsLeft before place sumN sumTo tab all centsOf metersRefusal
 cases = record { P1 = (refl, refl); P2 = (refl, refl); P3 = (refl, refl); P4 = (refl, refl); P5 = (refl, refl); P6 = (refl, refl); P7 = refl; P8 = refl; P9 = refl; P10 = refl; P11 = (refl, refl); P12 = (refl, refl) }

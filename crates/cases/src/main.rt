@@ -39,7 +39,7 @@ fn run_split(amount: i64, shares: &[i64], parts: &mut [i64]) {
     print_number(amount);
     print(b" over");
     print_list(shares);
-    let refused = splitting::split(amount, shares, parts);
+    let refused = split_amount::split(amount, shares, parts);
     if refused != 0 {
         print(b": refused");
         print_item(refused as i64);
@@ -75,7 +75,7 @@ fn run_load(
     print(b" metered");
     print_list(imports);
     print_list(generation);
-    let refused = assigning::assign(
+    let refused = load_assign::assign(
         1,
         0,
         loads,

@@ -1,4 +1,9 @@
+pub mod Packed
+pub mod Prices
+pub mod Tested
+pub mod Answers
+pub mod Content
 pub mod Whole
 pub mod Reader
 pub mod Accepted
-pub mod Unique
+pub mod Order

@@ -7,7 +7,9 @@ use lib.Dec.{leb, eqb}
 use lib.ListN.{length, length-take, length-drop}
 use borrow.Author.Tests.{leb-true, eqb-true}
 use Rattle.ints.proofs.Refusals.{passed}
-use Rattle.exercise.specs.File.{headerSize, header, Small, placesOf, places, part, headerRefusal, throughLength}
+use Rattle.exercise.specs.File.{headerSize, header, placesOf, places, bytesFrom}
+use Rattle.exercise.specs.Inside.{Small}
+use Rattle.exercise.specs.Order.{headerRefusal, frameRefusal}
 use Rattle.exercise.specs.declared.Header.{Header}
 use Rattle.exercise.specs.declared.Places.{Places}
 
@@ -33,8 +35,8 @@ pub record Whole (file : List ℕ) : Type 0 where
   pub begun : 5 ≤ length file
   pub ended : length file ≡ places file .end
 
-pub whole : (file : List ℕ) → throughLength file ≡ 0 → Whole file
-unfolding throughLength headerRefusal
+pub whole : (file : List ℕ) → frameRefusal file ≡ 0 → Whole file
+unfolding frameRefusal headerRefusal
 whole file e =
     let h = header file in
     let p1 = passed (leb headerSize (length file)) 8 _ e in
@@ -56,7 +58,7 @@ pub record Found (file : List ℕ) (h : Header) (p : Places) : Type 0 where
   pub same : p ≡ places file
   pub last : length file ≡ p .end
 
-pub found : (file : List ℕ) → throughLength file ≡ 0 → (h : Header) → h ≡ header file → (p : Places) → p ≡ placesOf h → Found file h p
+pub found : (file : List ℕ) → frameRefusal file ≡ 0 → (h : Header) → h ≡ header file → (p : Places) → p ≡ placesOf h → Found file h p
 found file e h f p g =
     let same = g ∙ ap placesOf f in
     record { lies = subst (Laid h) (sym g) (laid h); same = same; last = whole file e .ended ∙ ap (λ (q : Places). q .end) (sym same) }
@@ -64,6 +66,11 @@ found file e h f p g =
 pub small-read : (file : List ℕ) (h : Header) → h ≡ header file → Small h
 small-read file h e = subst Small (sym e) (small file)
 
--- a part that lies within a file has the bytes between its two places
-pub part-length : (from to : ℕ) (file : List ℕ) → from ≤ to → to ≤ length file → length (part from to file) ≡ to - from
+-- a bytesFrom that lies within a file has the bytes between its two places
+pub part-length : (from to : ℕ) (file : List ℕ) → from ≤ to → to ≤ length file → length (bytesFrom from to file) ≡ to - from
 part-length from to file h l = simp (length-take, length-drop) (omega arith)
+
+-- a file has a participant
+pub some-participant : (file : List ℕ) → 1 ≤ header file .participants
+unfolding header
+some-participant file = omega arith

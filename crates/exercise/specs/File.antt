@@ -1,18 +1,15 @@
--- The exercise file (document 01, "The exercise file"): its header, where its parts stand, what they hold, and the order of refusals to its last transaction.
+-- The exercise file (document 01, "The exercise file"): how header, prices, rows and transactions are packed, where they stand, and the hour that a file holds.
 -- Assumes nothing.
-use mathlib.Core.List.{List, []}
-use Prim.Native.Nat.{ℕ, _+_, _*_, _-_, _≤_}
-use lib.Dec.{leb, eqb}
+use mathlib.Core.List.{List}
+use Prim.Native.Nat.{ℕ, _+_, _*_, _-_}
 use lib.IntN.{ℤ}
-use lib.ListN.{length, take, drop}
-use Rattle.ints.specs.Refusal.{pick, unless}
-use Rattle.ints.specs.Turn.{_then_}
-use Rattle.rows.specs.Packed.{bytesAt, field}
-use Rattle.rows.specs.Row.{rowSize, rowsIn, rowsRefusal}
-use Rattle.rows.specs.Transaction.{transactionSize, transactionsIn, transactionsRefusal}
-use Rattle.rows.specs.declared.Row.{Row}
-use Rattle.rows.specs.declared.Transaction.{Transaction}
-use Rattle.prices.specs.Price.{priceSize, pricesFrom, pricesRefusal}
+use lib.ListN.{take, drop}
+use Rattle.ints.specs.Table.{tab}
+use Rattle.ints.specs.Twos.{twos}
+use Rattle.hour.specs.Hour.{Hour}
+use Rattle.hour.specs.declared.Row.{Row}
+use Rattle.hour.specs.declared.Transaction.{Transaction}
+use Rattle.exercise.specs.Packed.{bytesAt, field}
 use Rattle.exercise.specs.declared.Header.{Header}
 use Rattle.exercise.specs.declared.Places.{Places}
 
@@ -34,18 +31,78 @@ headerOf v =
 unfoldable pub header : List ℕ → Header
 header file = headerOf (bytesAt file 0 headerSize)
 
--- what the widths let a header say
-pub record Small (h : Header) : Type 0 where
-  pub participants : h .participants ≤ 64
-  pub locations : h .locations ≤ 64
-  pub rows : h .rows ≤ 4095
-  pub transactions : h .transactions ≤ 1023
+-- ---- "Prices, 24 bits each, two's complement"
 
--- ---- where prices, rows and transactions start, and where the file ends
+abbrev pub priceSize : ℕ
+priceSize = 3
+
+-- price j of a stretch of prices, and the n prices from price j on
+abbrev pub priceAt : List ℕ → ℕ → ℤ
+priceAt s j = twos 24 (bytesAt s (priceSize * j) priceSize)
+
+abbrev pub pricesFrom : List ℕ → ℕ → ℕ → List ℤ
+pricesFrom s j n = tab (λ i. priceAt s (j + i)) n
 
 -- "congestion day-ahead for each location, congestion real time interval by interval, then loss the same way": 1 + 12 + 1 + 12 prices for each location
 abbrev pub priceCount : Header → ℕ
 priceCount h = 26 * h .locations
+
+-- ---- "Row, 48 bits: market (1), kind (3), interval (4), participant (6), location (6), kW (25), spare (3)"
+
+abbrev pub rowSize : ℕ
+rowSize = 6
+
+abbrev pub rowOf : ℕ → Row
+rowOf v =
+    record {
+      market = field 48 v 0 1;
+      kind = field 48 v 1 3;
+      interval = field 48 v 4 4;
+      participant = field 48 v 8 6;
+      location = field 48 v 14 6;
+      kw = record { 0 = field 48 v 20 25 };
+    }
+
+abbrev pub rowSpare : ℕ → ℕ
+rowSpare v = field 48 v 45 3
+
+-- row i of a stretch of rows, packed and read, and the first n rows
+abbrev pub packedRow : List ℕ → ℕ → ℕ
+packedRow s i = bytesAt s (rowSize * i) rowSize
+
+abbrev pub rowAt : List ℕ → ℕ → Row
+rowAt s i = rowOf (packedRow s i)
+
+abbrev pub rowsIn : List ℕ → ℕ → List Row
+rowsIn s n = tab (rowAt s) n
+
+-- ---- "Transaction, 48 bits: market (1), interval (4), participant (6), source (6), sink (6), kW (25)"
+
+abbrev pub transactionSize : ℕ
+transactionSize = 6
+
+abbrev pub transactionOf : ℕ → Transaction
+transactionOf v =
+    record {
+      market = field 48 v 0 1;
+      interval = field 48 v 1 4;
+      participant = field 48 v 5 6;
+      source = field 48 v 11 6;
+      sink = field 48 v 17 6;
+      kw = record { 0 = field 48 v 23 25 };
+    }
+
+-- transaction i of a stretch of transactions, packed and read, and the first n transactions
+abbrev pub packedTransaction : List ℕ → ℕ → ℕ
+packedTransaction s i = bytesAt s (transactionSize * i) transactionSize
+
+abbrev pub transactionAt : List ℕ → ℕ → Transaction
+transactionAt s i = transactionOf (packedTransaction s i)
+
+abbrev pub transactionsIn : List ℕ → ℕ → List Transaction
+transactionsIn s n = tab (transactionAt s) n
+
+-- ---- where prices, rows and transactions start, and where the file ends
 
 unfoldable pub placesOf : Header → Places
 placesOf h =
@@ -61,68 +118,31 @@ placesOf h =
 abbrev pub places : List ℕ → Places
 places file = placesOf (header file)
 
--- the bytes from one place to another
-abbrev pub part : ℕ → ℕ → List ℕ → List ℕ
-part from to file = take (to - from) (drop from file)
+-- the bytes from one place to another: the stretches of prices, rows and transactions
+abbrev pub bytesFrom : ℕ → ℕ → List ℕ → List ℕ
+bytesFrom from to file = take (to - from) (drop from file)
 
-abbrev pub pricePart : List ℕ → List ℕ
-pricePart file = part (places file .prices) (places file .rows) file
+abbrev pub priceBytes : List ℕ → List ℕ
+priceBytes file = bytesFrom (places file .prices) (places file .rows) file
 
-abbrev pub rowPart : List ℕ → List ℕ
-rowPart file = part (places file .rows) (places file .transactions) file
+abbrev pub rowBytes : List ℕ → List ℕ
+rowBytes file = bytesFrom (places file .rows) (places file .transactions) file
 
-abbrev pub transactionPart : List ℕ → List ℕ
-transactionPart file = part (places file .transactions) (places file .end) file
+abbrev pub transactionBytes : List ℕ → List ℕ
+transactionBytes file = bytesFrom (places file .transactions) (places file .end) file
 
--- ---- what they hold
+-- ---- the hour that a file holds
 
-abbrev pub congestionAhead : List ℕ → List ℤ
-congestionAhead file = pricesFrom (pricePart file) 0 (header file .locations)
-
-abbrev pub congestionReal : List ℕ → List ℤ
-congestionReal file = pricesFrom (pricePart file) (header file .locations) (12 * header file .locations)
-
-abbrev pub lossAhead : List ℕ → List ℤ
-lossAhead file = pricesFrom (pricePart file) (13 * header file .locations) (header file .locations)
-
-abbrev pub lossReal : List ℕ → List ℤ
-lossReal file = pricesFrom (pricePart file) (14 * header file .locations) (12 * header file .locations)
-
-abbrev pub rows : List ℕ → List Row
-rows file = rowsIn (rowPart file) (header file .rows)
-
-abbrev pub transactions : List ℕ → List Transaction
-transactions file = transactionsIn (transactionPart file) (header file .transactions)
-
--- ---- "Order for an hour", to the last transaction and output lists aside
-
--- "9 header spare; 1 counts; 9 length". Six bits hold no more than 64 participants and locations
-unfoldable pub headerRefusal : Header → ℕ → ℕ
-headerRefusal h bytes =
-    unless (eqb (h .spare) 0) 9
-    (unless (leb (h .rows) 2048) 1
-    (unless (leb (h .transactions) 256) 1
-    (unless (eqb bytes (placesOf h .end)) 9
-    0)))
-
--- "9 under 5 bytes", then these
-unfoldable pub throughLength : List ℕ → ℕ
-throughLength file = unless (leb headerSize (length file)) 9 (headerRefusal (header file) (length file))
-
--- "2 prices; rows in turn (..); transactions in turn (..)"
-unfoldable pub fromPrices : List ℕ → ℕ
-fromPrices file =
-    pricesRefusal (pricePart file) (priceCount (header file))
-    then rowsRefusal (header file .participants) (header file .locations) (rowPart file) (header file .rows)
-    then transactionsRefusal (header file .participants) (header file .locations) (transactionPart file) (header file .transactions)
-
-abbrev pub fileRefusal : List ℕ → ℕ
-fileRefusal file = throughLength file then fromPrices file
-
--- ---- "The reader hands back the stretch of the caller's file holding the rows"; "else the stretch is empty", and stands where the file starts
-
-abbrev pub stretch : List ℕ → List ℕ
-stretch file = pick (eqb (fileRefusal file) 0) (rowPart file) []
-
-abbrev pub stretchStart : List ℕ → ℕ
-stretchStart file = pick (eqb (fileRefusal file) 0) (places file .rows) 0
+abbrev pub hourOf : List ℕ → Hour
+hourOf file =
+    let n = header file .locations in
+    record {
+      participants = header file .participants;
+      locations = n;
+      congestionAhead = pricesFrom (priceBytes file) 0 n;
+      congestionReal = pricesFrom (priceBytes file) n (12 * n);
+      lossAhead = pricesFrom (priceBytes file) (13 * n) n;
+      lossReal = pricesFrom (priceBytes file) (14 * n) (12 * n);
+      rows = rowsIn (rowBytes file) (header file .rows);
+      transactions = transactionsIn (transactionBytes file) (header file .transactions);
+    }

@@ -1,2 +1,9 @@
+pub mod Packed
 pub mod File
-pub mod Cases
+pub mod Order
+pub mod Reader
+pub mod Decoding
+pub mod Inside
+pub mod CasesFile
+pub mod CasesDecoding
+pub mod CasesHour

@@ -1,19 +1,6 @@
-// The packed exercise file (document 01, "The exercise file"): its header, its check and its reader. Prices are read in `prices`, rows and transactions decoded in `rows`.
-ghost use mathlib.Core.Path.{_≡_};
-ghost use Prim.Native.Nat.{_+_, _*_, _≤_, _<_};
-ghost use lib.ListN.{length};
-ghost use Rattle.rows.specs.Packed.{bytesAt};
-ghost use Rattle.exercise.specs.File.{headerOf, header, Small, placesOf, headerRefusal, throughLength, fromPrices, fileRefusal, stretch, stretchStart};
-pub use rows::DecodedRow;
-pub use rows::DecodedTransaction;
-pub use rows::Row;
-pub use rows::Transaction;
-pub use rows::decode_row;
-pub use rows::decode_transaction;
-pub use rows::row_at;
-pub use rows::row_number;
-pub use rows::transaction_at;
-pub use rows::transaction_number;
+// What is read from an exercise file (document 01, "The exercise file"). What its bytes mean is in specs/; crates `exercise_..` read them.
+use hour::Row;
+use hour::Transaction;
 
 // The counts of the header, and its spare bits.
 pub struct Header {
@@ -32,134 +19,14 @@ pub struct Places {
     pub end: usize,
 }
 
-// The five bytes from k on, the first highest.
-fn five_at(s: &[u8], k: usize) -> u64
-    requires { ⌜ k + 5 ≤ length (now s) ⌝ }
-    ensures { λ r. ⌜ r ≡ bytesAt (now (s .entry)) k 5 ⌝ }
-{
-    65536 * rows::three_at(s, k) + 256 * ints::wide(s[k + 3]) + ints::wide(s[k + 4])
+// A row, or the number of its refusal.
+pub enum DecodedRow {
+    Decoded(Row),
+    Refused(u32),
 }
 
-// The header of 40 bits.
-fn header_of(v: u64) -> Header
-    ensures { λ r. ⌜ r ≡ headerOf v ⌝ }
-{
-    Header {
-        participants: (v / 17179869184 % 64 + 1) as usize,
-        locations: (v / 268435456 % 64 + 1) as usize,
-        rows: (v / 65536 % 4096) as usize,
-        transactions: (v / 64 % 1024) as usize,
-        spare: (v / 1 % 64) as usize,
-    }
-}
-
-// The header of a file.
-pub fn read_header(file: &[u8]) -> Header
-    requires { ⌜ 5 ≤ length (now file) ⌝ }
-    ensures { λ r. ⌜ r ≡ header (now (file .entry)) ⌝ }
-{
-    header_of(five_at(file, 0))
-}
-
-// Where the parts of a file with such a header stand.
-pub fn places_of(header: Header) -> Places
-    requires { ⌜ Small header ⌝ }
-    ensures { λ r. ⌜ r ≡ placesOf header ⌝ }
-{
-    let rows = 5 + 3 * (26 * header.locations);
-    let transactions = rows + 6 * header.rows;
-    Places {
-        prices: 5,
-        rows,
-        transactions,
-        end: transactions + 6 * header.transactions,
-    }
-}
-
-// The refusal of a header in a file of so many bytes, 0 where there is none.
-fn header_refusal(header: Header, bytes: usize) -> u32
-    requires { ⌜ Small header ⌝ }
-    ensures { λ r. ⌜ r ≡ headerRefusal header bytes ⌝ }
-{
-    if header.spare != 0 {
-        return 9;
-    }
-    if header.rows > 2048 {
-        return 1;
-    }
-    if header.transactions > 256 {
-        return 1;
-    }
-    if bytes != places_of(header).end {
-        return 9;
-    }
-    0
-}
-
-// The order to the file's length.
-pub fn through_length(file: &[u8]) -> u32
-    ensures { λ r. ⌜ r ≡ throughLength (now (file .entry)) ⌝ }
-{
-    if file.len() < 5 {
-        return 9;
-    }
-    header_refusal(read_header(file), file.len())
-}
-
-// The order from the prices on.
-fn from_prices(file: &[u8]) -> u32
-    requires { ⌜ throughLength (now file) ≡ 0 ⌝ }
-    ensures { λ r. ⌜ r ≡ fromPrices (now (file .entry)) ⌝ }
-{
-    let header = read_header(file);
-    let places = places_of(header);
-    let prices_at = places.prices;
-    let rows_at = places.rows;
-    let transactions_at = places.transactions;
-    let end = places.end;
-    let refusal = prices::prices_refusal(&file[prices_at..rows_at], 26 * header.locations);
-    if refusal != 0 {
-        return refusal;
-    }
-    let refusal = rows::rows_refusal(
-        header.participants,
-        header.locations,
-        &file[rows_at..transactions_at],
-        header.rows,
-    );
-    if refusal != 0 {
-        return refusal;
-    }
-    rows::transactions_refusal(
-        header.participants,
-        header.locations,
-        &file[transactions_at..end],
-        header.transactions,
-    )
-}
-
-// 0 for a file that passes the order to its last transaction, or its refusal.
-pub fn check(file: &[u8]) -> u32
-    ensures { λ r. ⌜ r ≡ fileRefusal (now (file .entry)) ⌝ }
-{
-    let refusal = through_length(file);
-    if refusal != 0 {
-        return refusal;
-    }
-    from_prices(file)
-}
-
-// The stretch of the file that holds the rows, where the check answers 0; else the empty one at its start.
-pub fn rows_part(file: &[u8]) -> &[u8]
-    ensures bytes { λ r. ⌜ now r ≡ stretch (now (file .entry)) ⌝ }
-    ensures block { λ r. ⌜ r .ptr .0 ≡ file .entry .ptr .0 ⌝ }
-    ensures place { λ r. ⌜ r .ptr .1 ≡ stretchStart (now (file .entry)) + file .entry .ptr .1 ⌝ }
-{
-    if check(file) != 0 {
-        return &file[0..0];
-    }
-    let places = places_of(read_header(file));
-    let from = places.rows;
-    let to = places.transactions;
-    &file[from..to]
+// A transaction, or the number of its refusal.
+pub enum DecodedTransaction {
+    Decoded(Transaction),
+    Refused(u32),
 }

@@ -1,8 +1,10 @@
-pub mod Decoded
-pub mod Added
-pub mod Priced
-pub mod Total
-pub mod Parts
-pub mod Paid
-pub mod Order
+pub mod Terms
+pub mod Forms
+pub mod Theorem
+pub mod Own
+pub mod Sign
+pub mod Tested
+pub mod Credits
+pub mod Billed
 pub mod Theorems
+pub mod Each

@@ -1,4 +1,10 @@
-pub mod Given
+pub mod Hour
 pub mod Charges
+pub mod Surplus
 pub mod Order
-pub mod Cases
+pub mod InsideTested
+pub mod InsideParts
+pub mod InsideTotals
+pub mod CasesCharges
+pub mod CasesSurplus
+pub mod CasesOrder

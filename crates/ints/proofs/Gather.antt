@@ -1,13 +1,13 @@
 -- Sums over a list and sums over places: added up place by place, or element by element. Assumes nothing.
 use mathlib.Core.Path.{_≡_, refl, sym, ap, ap₂, _∙_}
 use mathlib.Core.Bool.{Bool, true, false, _&&_, and-true, and-false}
-use mathlib.Core.List.{List, [], _∷_, _++_}
+use mathlib.Core.List.{List, [], _∷_, _++_, map}
 use Prim.Native.Nat.{ℕ, zero, suc, _<_}
 use native.Mathlib.Omega.{arith}
 use lib.Dec.{eqb}
 use lib.IntN.{ℤ, negℤ, _+ℤ_, _-ℤ_, _*ℤ_, +ℤ-idl, zero-*ℤ, *ℤ-zero, *ℤ-comm, negℤ-+ℤ}
 use borrow.Author.Tests.{eq-eqb, ne-eqb}
-use Rattle.ints.specs.Every.{Every, keep}
+use Rattle.ints.specs.InsideEvery.{Every, keep}
 use Rattle.ints.specs.Refusal.{pick}
 use Rattle.ints.specs.Sum.{Σℤ, sumTo, only}
 use Rattle.ints.specs.Table.{tab}
@@ -105,3 +105,23 @@ unfolding Σℤ keep
         → Σℤ (λ x. only (u x) (f x)) (pick b (x ∷ keep t xs) (keep t xs)) ≡ only (u x) (f x) +ℤ Σℤ (λ x. only (u x) (f x)) xs
     by true e rest = ap (λ (s : ℤ). only (u x) (f x) +ℤ s) rest
     by false e rest = rest ∙ sym (ap (λ (b : Bool). only b (f x) +ℤ Σℤ (λ x. only (u x) (f x)) xs) (h x e) ∙ +ℤ-idl (Σℤ (λ x. only (u x) (f x)) xs))
+
+-- ---- the elements of a list by another name
+
+pub every-of : {A B : Type 0} (g : A → B) (P : B → Type 0) (xs : List A) → Every (λ x. P (g x)) xs → Every P (map g xs)
+every-of g P [] e = tt
+every-of g P (x ∷ xs) e = (e .0, every-of g P xs (e .1))
+
+pub Σ-map : {A B : Type 0} (g : A → B) (f : B → ℤ) (xs : List A) → Σℤ f (map g xs) ≡ Σℤ (λ x. f (g x)) xs
+unfolding Σℤ
+Σ-map g f [] = refl
+Σ-map g f (x ∷ xs) = ap (λ (s : ℤ). f (g x) +ℤ s) (Σ-map g f xs)
+
+pub keep-map : {A B : Type 0} (g : A → B) (t : B → Bool) (xs : List A) → keep t (map g xs) ≡ map g (keep (λ x. t (g x)) xs)
+unfolding keep
+keep-map g t [] = refl
+keep-map g t (x ∷ xs) = by (t (g x)) (keep-map g t xs)
+  where
+    by : (b : Bool) → keep t (map g xs) ≡ map g (keep (λ x. t (g x)) xs) → pick b (g x ∷ keep t (map g xs)) (keep t (map g xs)) ≡ map g (pick b (x ∷ keep (λ x. t (g x)) xs) (keep (λ x. t (g x)) xs))
+    by true e = ap (λ ys. g x ∷ ys) e
+    by false e = e

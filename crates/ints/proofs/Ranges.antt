@@ -10,8 +10,7 @@ use lib.IntN.{ℤ, pos}
 use lib.ListN.{length, take, drop, replicate, length-take, List·getD-eq-default}
 use lib.Seq.{getD-take, getD-drop}
 use borrow.Author.Tests.{ltb-true, ltb-false}
-use Rattle.ints.specs.Number.{Within}
-use Rattle.ints.specs.Range.{InRange}
+use Rattle.ints.specs.InsideRange.{Within, InRange}
 use Rattle.ints.specs.Table.{_at_, tab}
 use Rattle.ints.proofs.Sizes.{w-up, w-lit}
 use Rattle.ints.proofs.Tables.{length-tab, getD-tab}

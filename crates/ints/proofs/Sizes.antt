@@ -9,7 +9,7 @@ use lib.Signed.{mag, _≤ℤ_}
 use mir.Syntax.{Width, w64}
 use mir.Val.{SFits, hbits, toZ, ofZ}
 use mir.Facts.{toZ-ofZ}
-use Rattle.ints.specs.Number.{Within}
+use Rattle.ints.specs.InsideRange.{Within}
 use Rattle.ints.proofs.Diff.{_⊖_, ⊖-laws, ind2, sub-ind}
 
 -- ---- size and order at differences

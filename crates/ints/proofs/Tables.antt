@@ -2,7 +2,7 @@
 use mathlib.Core.Path.{_≡_, refl, sym, ap, ap₂, _∙_, subst}
 use mathlib.Core.Logic.{⊎-elim}
 use mathlib.Core.Bool.{Bool, true, _&&_}
-use mathlib.Core.List.{List, [], _∷_, _++_}
+use mathlib.Core.List.{List, [], _∷_, _++_, append-nil, append-assoc}
 use Prim.Native.Nat.{ℕ, zero, suc, _+_, _≤_, _<_}
 use native.Mathlib.Nat.{eq-or-lt-of-le, le-of-suc-le-suc, not-suc-le-zero}
 use native.Mathlib.Numerals.{add-one}
@@ -96,3 +96,12 @@ module _ {A : Type 0} (t : A → Bool) (d : A) where
   all-at [] e i h = absurd (not-suc-le-zero h)
   all-at (x ∷ xs) e zero h = and-true (t x) (all t xs) e .0
   all-at (x ∷ xs) e (suc i) h = all-at xs (and-true (t x) (all t xs) e .1) i (le-of-suc-le-suc h)
+
+-- ---- a list by a rule, in two parts
+
+pub tab-parts : {A : Type 0} (f : ℕ → A) (m n : ℕ) → tab f (m + n) ≡ tab f m ++ tab (λ i. f (m + i)) n
+unfolding tab
+tab-parts f m zero = let here : m + 0 ≡ m = omega arith in ap (tab f) here ∙ sym (append-nil (tab f m))
+tab-parts f m (suc n) =
+    let here : m + suc n ≡ suc (m + n) = omega arith in
+    ap (tab f) here ∙ ap (λ xs. xs ++ (f (m + n) ∷ [])) (tab-parts f m n) ∙ append-assoc (tab f m) (tab (λ i. f (m + i)) n) (f (m + n) ∷ [])

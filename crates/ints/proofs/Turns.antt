@@ -1,14 +1,19 @@
 -- Laws of orders of refusals one after the other, of tests in turn, and of answers. Assumes nothing.
-use mathlib.Core.Path.{_≡_, refl, sym, ap, _∙_}
+use mathlib.Core.Path.{_≡_, refl, sym, ap, ap₂, _∙_}
 use mathlib.Core.Logic.{⊎-elim}
 use mathlib.Core.Bool.{Bool, true, false}
+use mathlib.Core.List.{List, [], _∷_, _++_}
 use Prim.Native.Nat.{ℕ, zero, suc, _+_, _<_}
 use native.Mathlib.Nat.{eq-or-lt-of-le, le-of-suc-le-suc, not-suc-le-zero}
 use native.Mathlib.Numerals.{add-one}
+use native.Mathlib.Omega.{arith}
 use lib.Dec.{eqb}
+use lib.ListN.{length}
 use borrow.Author.Tests.{eq-eqb, ne-eqb, eqb-true, eqb-false}
 use Rattle.ints.specs.Refusal.{pick}
-use Rattle.ints.specs.Turn.{_then_, inTurn}
+use Rattle.ints.specs.Table.{tab}
+use Rattle.ints.specs.Turn.{_then_, inTurn, inOrder}
+use Rattle.ints.proofs.Tables.{length-tab}
 
 -- ---- two orders
 
@@ -62,6 +67,39 @@ module _ (f : ℕ → ℕ) where
   turn-none (suc n) e i h =
       let both = then-none (inTurn f n) (f n) e in
       ⊎-elim (λ q. ap f q ∙ both .1) (λ l. turn-none n (both .0) i l) (eq-or-lt-of-le (le-of-suc-le-suc h))
+
+-- ---- in order, over a list
+
+then-nothing : (a : ℕ) → (a then 0) ≡ a
+then-nothing a = by (eqb a 0) refl
+  where
+    by : (b : Bool) → eqb a 0 ≡ b → pick b 0 a ≡ a
+    by true e = sym (eqb-true a 0 e)
+    by false e = refl
+
+then-assoc : (a b c : ℕ) → (a then b then c) ≡ ((a then b) then c)
+then-assoc a b c = by (eqb a 0) refl
+  where
+    by : (t : Bool) → eqb a 0 ≡ t → pick t (b then c) a ≡ (pick t b a then c)
+    by true e = refl
+    by false e = sym (then-earlier a c (eqb-false a 0 e))
+
+module _ {A : Type 0} (f : ℕ → A → ℕ) where
+  order-last : (i : ℕ) (xs : List A) (x : A) → inOrder f i (xs ++ (x ∷ [])) ≡ (inOrder f i xs then f (i + length xs) x)
+  unfolding inOrder
+  order-last i [] x = let here : i ≡ i + 0 = omega arith in then-nothing (f i x) ∙ ap (λ (k : ℕ). f k x) here
+  order-last i (y ∷ ys) x =
+      let here : suc i + length ys ≡ i + suc (length ys) = omega arith in
+      ap (λ (z : ℕ). f i y then z) (order-last (suc i) ys x ∙ ap (λ (k : ℕ). inOrder f (suc i) ys then f k x) here)
+      ∙ then-assoc (f i y) (inOrder f (suc i) ys) (f (i + suc (length ys)) x)
+
+  -- a list by a rule, in order, is the rule in turn
+  pub order-tab : (g : ℕ → A) (n : ℕ) → inOrder f 0 (tab g n) ≡ inTurn (λ k. f k (g k)) n
+  unfolding inOrder inTurn tab
+  order-tab g zero = refl
+  order-tab g (suc n) =
+      let here : 0 + length (tab g n) ≡ n = omega (arith, length-tab g n) in
+      order-last 0 (tab g n) (g n) ∙ ap₂ (λ (a k : ℕ). a then f k (g n)) (order-tab g n) here
 
 -- ---- answers: a thing that was read, or its refusal, in a type that has a case for either
 

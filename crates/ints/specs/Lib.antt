@@ -5,5 +5,5 @@ pub mod Refusal
 pub mod Twos
 pub mod Turn
 pub mod Each
-pub mod Every
-pub mod Range
+pub mod InsideEvery
+pub mod InsideRange

@@ -1,7 +1,7 @@
--- Size, sign and range of a number. Assumes nothing.
+-- Sign and range of a number. Assumes nothing.
 use mathlib.Core.Bool.{Bool, true, false, _&&_}
-use Prim.Native.Nat.{ℕ, _≤_}
-use lib.IntN.{ℤ, pos, negℤ, natAbs}
+use Prim.Native.Nat.{ℕ}
+use lib.IntN.{ℤ, pos, negℤ}
 use lib.Signed.{ltZ, leZ}
 
 -- x is below 0
@@ -16,7 +16,3 @@ signed false size = pos size
 -- x is low to high, both included
 abbrev pub between : ℤ → ℤ → ℤ → Bool
 between low high x = leZ low x && leZ x high
-
--- -k ≤ x ≤ k. A record, so that x and k are found from a proof of it.
-pub record Within (x : ℤ) (k : ℕ) : Type 0 where
-  pub within : natAbs x ≤ k

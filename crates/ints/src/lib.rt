@@ -5,7 +5,7 @@ ghost use Prim.Native.Nat.{_≤_, _<_};
 ghost use lib.IntN.{pos, natAbs};
 ghost use lib.ListN.{length};
 ghost use Rattle.ints.specs.Number.{below0, signed, between};
-ghost use Rattle.ints.specs.Range.{Short};
+ghost use Rattle.ints.specs.InsideRange.{Short};
 ghost use Rattle.ints.specs.Sum.{sum as Sum·sum};
 ghost use Rattle.ints.specs.Table.{_at_, tab, all};
 

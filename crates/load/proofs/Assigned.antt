@@ -18,10 +18,9 @@ use Rattle.ints.proofs.Tables.{length-tab, tab-ext}
 use Rattle.ints.proofs.Turns.{then-none}
 use Rattle.split.specs.Split.{parts}
 use Rattle.split.proofs.Laws.{length-parts}
-use Rattle.load.specs.Facts.{Ranged, Splits, Metered}
-use Rattle.load.specs.Load.{isMetered, meteredLoad, busLoads, contracted, Given, buses, assigned, assignment}
-use Rattle.load.specs.Order.{tests, meters, cover, refusal}
-use Rattle.load.specs.Table.{cell}
+use Rattle.load.specs.Inside.{Ranged, Splittable, MetersGiven}
+use Rattle.load.specs.Load.{isMetered, meteredLoad, busLoads, contracted, LoadGiven, buses, assigned, assignment, cell}
+use Rattle.load.specs.Order.{listsRefusal, metersRefusal, contractsRefusal, loadRefusal}
 use Rattle.load.proofs.Accepted.{Naturals, ranged-of, tested}
 use Rattle.load.proofs.Meters.{unmetered-loads, metered-loads, metered-outside, metered-inside}
 use Rattle.load.proofs.Splits.{part-ranged, last-line}
@@ -36,9 +35,9 @@ module _ (metered : ℤ) (loads imports generation : List ℤ) where
       by true = length-parts (meteredLoad imports generation) loads
       by false = refl
 
-  module _ (given : Metered loads imports generation) (accepts : meters metered loads imports generation ≡ 0) where
+  module _ (given : MetersGiven loads imports generation) (accepts : metersRefusal metered loads imports generation ≡ 0) where
     -- a metered load that is accepted can be split
-    pub metered-splits : isMetered metered ≡ true → Splits (meteredLoad imports generation) loads
+    pub metered-splits : isMetered metered ≡ true → Splittable (meteredLoad imports generation) loads
     metered-splits on =
         ⊎-elim
         (λ inside.
@@ -59,19 +58,19 @@ module _ (metered : ℤ) (loads imports generation : List ℤ) where
 
 -- ---- 8, for the same loads
 
-pub cover-ext : (n : ℕ) (areaParts contracts : List ℤ) (f g : ℕ → ℤ) → ((b : ℕ) → b < n → f b ≡ g b) → cover n areaParts contracts f ≡ cover n areaParts contracts g
-unfolding cover
+pub cover-ext : (n : ℕ) (areaParts contracts : List ℤ) (f g : ℕ → ℤ) → ((b : ℕ) → b < n → f b ≡ g b) → contractsRefusal n areaParts contracts f ≡ contractsRefusal n areaParts contracts g
+unfolding contractsRefusal
 cover-ext n areaParts contracts f g h = ap (λ (t : Bool). unless t 8 0) (allTo-ext _ _ n (λ b l. ap (leZ (contracted n areaParts contracts b)) (h b l)))
 
 -- ---- a table with the numbers of the result
 
-pub assignment-is : (d : Given) (table : List ℤ) → 1 ≤ buses d → ((p b : ℕ) → p < 64 → b < buses d → cell (buses d) table p b ≡ assigned d p b) → tab (λ k. table at k) (64 * buses d) ≡ assignment d
+pub assignment-is : (d : LoadGiven) (table : List ℤ) → 1 ≤ buses d → ((p b : ℕ) → p < 64 → b < buses d → cell (buses d) table p b ≡ assigned d p b) → tab (λ k. table at k) (64 * buses d) ≡ assignment d
 unfolding assignment
 assignment-is d table some h =
     tab-ext _ _ (64 * buses d)
     (λ k l. ap (λ (i : ℕ). table at i) (sym (div-add-mod' k (buses d))) ∙ h (k / buses d) (k % buses d) (div-lt-iff-lt-mul some .1 l) (mod-lt k some))
 
 -- an accepted assignment is as long as the list lent for it
-pub length-assignment : (d : Given) (n : ℕ) → refusal d n ≡ 0 → length (assignment d) ≡ n
-unfolding assignment refusal
-length-assignment d n e = length-tab (λ k. assigned d (k / buses d) (k % buses d)) (64 * buses d) ∙ sym (tested d n (then-none (tests d n) _ e .0) .lengths-pass .result-long)
+pub length-assignment : (d : LoadGiven) (n : ℕ) → loadRefusal d n ≡ 0 → length (assignment d) ≡ n
+unfolding assignment loadRefusal
+length-assignment d n e = length-tab (λ k. assigned d (k / buses d) (k % buses d)) (64 * buses d) ∙ sym (tested d n (then-none (listsRefusal d n) _ e .0) .lengths-pass .result-long)

@@ -7,17 +7,17 @@ use native.Mathlib.Omega.{arith}
 use lib.Dec.{ltb, eqb}
 use lib.IntN.{ℤ, pos, natAbs}
 use lib.ListN.{length}
-use Rattle.ints.specs.Number.{Within, between}
-use Rattle.ints.specs.Range.{Short}
+use Rattle.ints.specs.Number.{between}
+use Rattle.ints.specs.InsideRange.{Within, Short}
 use Rattle.ints.specs.Refusal.{pick, unless}
 use Rattle.ints.specs.Sum.{sum}
 use Rattle.ints.specs.Table.{_at_}
 use Rattle.ints.proofs.Sizes.{w-up}
 use Rattle.ints.proofs.Sums.{sumTo-abs}
 use Rattle.split.specs.Split.{total, parts}
-use Rattle.split.proofs.Accepted.{fromTotal}
+use Rattle.split.proofs.Accepted.{fromTotalRefusal}
 use Rattle.load.specs.Load.{isMetered, meteredLoad, busLoads}
-use Rattle.load.specs.Order.{meters}
+use Rattle.load.specs.Order.{metersRefusal}
 
 module _ (metered : ℤ) (loads imports generation : List ℤ) where
   abbrev load : ℤ
@@ -29,8 +29,8 @@ module _ (metered : ℤ) (loads imports generation : List ℤ) where
 
   -- not metered
   module _ (e : isMetered metered ≡ false) where
-    pub unmetered-answer : meters metered loads imports generation ≡ 0
-    unfolding meters
+    pub unmetered-answer : metersRefusal metered loads imports generation ≡ 0
+    unfolding metersRefusal
     unmetered-answer = ap (λ (t : Bool). order t (between (pos 0) (pos 20000000) load)) e
 
     pub unmetered-loads : busLoads metered loads imports generation ≡ loads
@@ -41,12 +41,12 @@ module _ (metered : ℤ) (loads imports generation : List ℤ) where
     pub metered-loads : busLoads metered loads imports generation ≡ parts load loads
     metered-loads = ap (λ (t : Bool). pick t (parts load loads) loads) e
 
-    pub metered-outside : between (pos 0) (pos 20000000) load ≡ false → meters metered loads imports generation ≡ 6
-    unfolding meters
+    pub metered-outside : between (pos 0) (pos 20000000) load ≡ false → metersRefusal metered loads imports generation ≡ 6
+    unfolding metersRefusal
     metered-outside f = ap₂ order e f
 
-    pub metered-inside : between (pos 0) (pos 20000000) load ≡ true → meters metered loads imports generation ≡ fromTotal load loads
-    unfolding meters
+    pub metered-inside : between (pos 0) (pos 20000000) load ≡ true → metersRefusal metered loads imports generation ≡ fromTotalRefusal load loads
+    unfolding metersRefusal
     metered-inside f = ap₂ order e f
 
 -- a short list's sum is not large

@@ -1,6 +1,5 @@
 -- The split as the assignment uses it: totals, sizes, and a list whose front holds the parts. Assumes nothing.
 use mathlib.Core.Path.{_≡_, refl, sym, ap, ap₂, _∙_, subst}
-use mathlib.Core.Logic.{⊎-elim}
 use mathlib.Core.List.{List, _++_}
 use mathlib.Core.Bool.{Bool, true, false, _&&_}
 use Prim.Native.Nat.{ℕ, _+_, _*_, _≤_, _<_}
@@ -9,25 +8,25 @@ use lib.IntN.{ℤ, pos, negℤ, natAbs}
 use lib.ListN.{length, drop, length-append, length-drop, List·getD-append}
 use lib.Seq.{length-take-le}
 use borrow.Author.Tests.{le-leb, le-ltb, eq-eqb}
-use Rattle.ints.specs.Number.{Within, below0, signed, between}
-use Rattle.ints.specs.Range.{Short}
+use Rattle.ints.specs.Number.{below0, signed, between}
+use Rattle.ints.specs.InsideRange.{Within, Short}
 use Rattle.ints.specs.Refusal.{lent}
 use Rattle.ints.specs.Sum.{sum}
 use Rattle.ints.specs.Table.{_at_}
-use Rattle.ints.proofs.Counts.{sumN-term}
 use Rattle.ints.proofs.Eachs.{all-each}
 use Rattle.ints.proofs.Refusals.{lent-result}
 use Rattle.ints.proofs.Signs.{signed-sum, size-signed}
 use Rattle.ints.proofs.Sizes.{w-up}
 use Rattle.ints.proofs.Sums.{sumTo-ext}
 use Rattle.ints.proofs.Tables.{getD-tab}
-use Rattle.split.specs.Split.{share, total, part, parts, refusal}
-use Rattle.split.specs.Given.{Shares}
-use Rattle.split.proofs.Accepted.{accepted, fromTotal, with-total}
-use Rattle.split.proofs.Laws.{length-parts, part-sum, no-size}
+use Rattle.split.specs.Split.{share, total, part, parts, splitRefusal}
+use Rattle.split.specs.Inside.{Shares}
+use Rattle.split.proofs.Accepted.{fromTotalRefusal, with-total}
+use Rattle.split.proofs.Laws.{length-parts}
+use Rattle.split.proofs.Sizes.{part-size}
 use Rattle.load.specs.Load.{partsOf}
-use Rattle.load.specs.Table.{InRange}
-use Rattle.load.specs.Facts.{Splits, Portion, Ranged}
+use Rattle.load.specs.InsideTable.{FrontWithin}
+use Rattle.load.specs.Inside.{Splittable, Portion, Ranged}
 
 -- the sum of shares is their total
 pub short-of : {shares : List ℤ} → Shares shares → Short shares
@@ -42,29 +41,21 @@ pub part-at : (amount : ℤ) (shares : List ℤ) (i : ℕ) → i < length shares
 unfolding parts
 part-at amount shares i l = getD-tab (λ i. signed (below0 amount) (part (natAbs amount) shares i)) (pos 0) (length shares) i l
 
--- a part is at most the amount
-part-size : {amount : ℤ} {shares : List ℤ} → Splits amount shares → (i : ℕ) → i < length shares → part (natAbs amount) shares i ≤ natAbs amount
-part-size {amount} {shares} s i l =
-    ⊎-elim
-    (λ some. omega (arith, sumN-term (part (natAbs amount) shares) i (length shares) l, part-sum (natAbs amount) shares some))
-    (λ none. omega (arith, ap (λ (size : ℕ). part size shares i) none ∙ no-size shares i))
-    (accepted amount shares (length shares) (s .accepted) .some)
-
-pub part-within : {amount : ℤ} {shares : List ℤ} → Splits amount shares → (i : ℕ) → i < length shares → Within (parts amount shares at i) 20000000
-part-within {amount} {shares} s i l = record { within = omega (arith, ap natAbs (part-at amount shares i l) ∙ size-signed (below0 amount) (part (natAbs amount) shares i), part-size s i l, s .ranged .small) }
+pub part-within : {amount : ℤ} {shares : List ℤ} → Splittable amount shares → (i : ℕ) → i < length shares → Within (parts amount shares at i) 20000000
+part-within {amount} {shares} s i l = record { within = omega (arith, ap natAbs (part-at amount shares i l) ∙ size-signed (below0 amount) (part (natAbs amount) shares i), part-size amount shares (length shares) (s .accepted) i l, s .ranged .small) }
 
 -- a part of kW is kW
-pub part-natural : {amount : ℤ} {shares : List ℤ} → Splits amount shares → (i : ℕ) → i < length shares → parts amount shares at i ≡ pos (part (natAbs amount) shares i)
+pub part-natural : {amount : ℤ} {shares : List ℤ} → Splittable amount shares → (i : ℕ) → i < length shares → parts amount shares at i ≡ pos (part (natAbs amount) shares i)
 part-natural {amount} {shares} s i l =
     part-at amount shares i l ∙ ap (λ (z : ℤ). signed (below0 z) (part (natAbs amount) shares i)) (s .ranged .natural)
     ∙ ap (λ (t : Bool). signed t (part (natAbs amount) shares i)) (le-ltb (natAbs amount) 0 (omega arith))
 
-pub part-ranged : {amount : ℤ} {shares : List ℤ} → Splits amount shares → (i : ℕ) → i < length shares → Ranged (parts amount shares at i)
+pub part-ranged : {amount : ℤ} {shares : List ℤ} → Splittable amount shares → (i : ℕ) → i < length shares → Ranged (parts amount shares at i)
 part-ranged s i l = record { natural = part-natural s i l ∙ ap (λ (z : ℤ). pos (natAbs z)) (sym (part-natural s i l)); small = part-within s i l .within }
 
 -- a list whose front was lent to a split that is accepted
-pub portion-of : (amount : ℤ) (shares made after : List ℤ) (answer : ℕ) → Splits amount shares
-    → answer ≡ refusal amount shares (length shares) → after ≡ lent answer (parts amount shares ++ drop (length shares) made) made → Portion amount shares after
+pub portion-of : (amount : ℤ) (shares made after : List ℤ) (answer : ℕ) → Splittable amount shares
+    → answer ≡ splitRefusal amount shares (length shares) → after ≡ lent answer (parts amount shares ++ drop (length shares) made) made → Portion amount shares after
 portion-of amount shares made after answer s e f = record {
   long = omega (arith, ap length is ∙ length-append (parts amount shares) (drop (length shares) made), length-parts amount shares);
   each = λ i l. ap (λ (list : List ℤ). list at i) is ∙ List·getD-append (parts amount shares) (drop (length shares) made) (pos 0) i (omega (arith, length-parts amount shares));
@@ -73,7 +64,7 @@ portion-of amount shares made after answer s e f = record {
     is : after ≡ parts amount shares ++ drop (length shares) made
     is = f ∙ lent-result answer (parts amount shares ++ drop (length shares) made) made (e ∙ s .accepted)
 
-pub portion-range : {amount : ℤ} {shares made : List ℤ} → Splits amount shares → Portion amount shares made → InRange made (length shares) 1000000000000
+pub portion-range : {amount : ℤ} {shares made : List ℤ} → Splittable amount shares → Portion amount shares made → FrontWithin made (length shares) 1000000000000
 portion-range s p = record { each = λ i l. subst (λ (z : ℤ). Within z 1000000000000) (sym (p .each i l)) (w-up (part-within s i l) (omega arith)) }
 
 -- an area's stretch of the list is as long as there are buses
@@ -87,8 +78,8 @@ natural-between n k h = ap₂ _&&_ (le-leb 0 n (omega arith)) (le-leb n k h)
 
 module _ (amount : ℤ) (shares : List ℤ) (a : Ranged amount) (s : Shares shares) (some : 1 ≤ length shares) where
   -- of the order of refusals the last line is left
-  pub last-line : refusal amount shares (length shares) ≡ fromTotal amount shares
-  unfolding refusal
+  pub last-line : splitRefusal amount shares (length shares) ≡ fromTotalRefusal amount shares
+  unfolding splitRefusal
   last-line =
       simp (
         le-leb 1 (length shares) some,
@@ -101,5 +92,5 @@ module _ (amount : ℤ) (shares : List ℤ) (a : Ranged amount) (s : Shares shar
       in-range : between (negℤ (pos 1000000000)) (pos 1000000000) amount ≡ true
       in-range = ap (between (negℤ (pos 1000000000)) (pos 1000000000)) (a .natural) ∙ le-leb (natAbs amount) 1000000000 (omega (arith, a .small))
 
-  pub splits-of : 0 < total shares → Splits amount shares
+  pub splits-of : 0 < total shares → Splittable amount shares
   splits-of t = record { accepted = last-line ∙ with-total amount shares t; ranged = a }

@@ -11,7 +11,7 @@ use lib.IntN.{ℤ, pos, _+ℤ_, +ℤ-idl, +ℤ-idr, +ℤ-assoc}
 use lib.ListN.{length, set, take, drop, replicate, length-set, take-append-drop}
 use lib.Seq.{getD-set-other, ext-getD}
 use borrow.Author.Tests.{eq-eqb, ne-eqb, eqb-true}
-use Rattle.ints.specs.Number.{Within}
+use Rattle.ints.specs.InsideRange.{Within}
 use Rattle.ints.proofs.Ranges.{room, zero-at}
 use Rattle.ints.specs.Refusal.{pick, lent}
 use Rattle.ints.specs.Sum.{sumTo, only}
@@ -20,7 +20,8 @@ use Rattle.ints.proofs.Adding.{added, only-within}
 use Rattle.ints.proofs.Bools.{same, and-true}
 use Rattle.ints.proofs.Sizes.{w-add, w-lit, w-up}
 use Rattle.ints.proofs.Sums.{sumTo-zero, sumTo-next, sumTo-none, sumTo-only, sumTo-abs}
-use Rattle.load.specs.Table.{InRange, Room, Spread, cell, Cells, Added}
+use Rattle.load.specs.Load.{cell}
+use Rattle.load.specs.InsideTable.{FrontWithin, Room, Spread, Cells, AddedCells}
 
 -- ---- parts are added one by one
 
@@ -95,7 +96,7 @@ one-left test f t place n l h =
 
 module _ {before parts after : List ℤ} (n : ℕ) where
   -- parts added along row q
-  pub row-added : (q : ℕ) → q < 64 → Spread before (q * n) 1 parts n after → Added n (λ p b. only (eqb q p) (parts at b)) before after
+  pub row-added : (q : ℕ) → q < 64 → Spread before (q * n) 1 parts n after → AddedCells n (λ p b. only (eqb q p) (parts at b)) before after
   row-added q h s = record {
     same = s .same;
     each = λ p b _ l. s .each (p * n + b) ∙ ap (λ (z : ℤ). cell n before p b +ℤ z) (one-left (λ i. eqb (q * n + i * 1) (p * n + b)) (λ i. parts at i) (eqb q p) b n l (place p b l));
@@ -106,7 +107,7 @@ module _ {before parts after : List ℤ} (n : ℕ) where
       place p b l i u = ap (λ (k : ℕ). eqb (q * n + k) (p * n + b)) (mul-one i) ∙ same-place n q i p b u l
 
   -- parts added along column c
-  pub column-added : (c : ℕ) → c < n → Spread before c n parts 64 after → Added n (λ p b. only (eqb c b) (parts at p)) before after
+  pub column-added : (c : ℕ) → c < n → Spread before c n parts 64 after → AddedCells n (λ p b. only (eqb c b) (parts at p)) before after
   column-added c h s = record {
     same = s .same;
     each = λ p b u l. s .each (p * n + b) ∙ ap (λ (z : ℤ). cell n before p b +ℤ z) (one-left (λ i. eqb (c + i * n) (p * n + b)) (λ i. parts at i) (eqb c b) p 64 u (place p b l));
@@ -118,7 +119,7 @@ module _ {before parts after : List ℤ} (n : ℕ) where
 
 -- a number added in row q at column c
 pub cell-added : {before : List ℤ} (n q c : ℕ) (z : ℤ) → q < 64 → c < n → q * n + c < length before
-    → Added n (λ p b. only (eqb c b) (only (eqb q p) z)) before (set before (q * n + c) (before at (q * n + c) +ℤ z))
+    → AddedCells n (λ p b. only (eqb c b) (only (eqb q p) z)) before (set before (q * n + c) (before at (q * n + c) +ℤ z))
 cell-added {before} n q c z g h r = record {
   same = length-set before (q * n + c) _;
   each = λ p b _ l. added before (q * n + c) z (p * n + b) r ∙ ap (λ (y : ℤ). cell n before p b +ℤ y) (ap (λ (t : Bool). only t z) (same-place n q c p b h l) ∙ both (eqb q p) (eqb c b));
@@ -134,11 +135,11 @@ cell-added {before} n q c z g h r = record {
 -- ---- one addition after the other
 
 module _ {n : ℕ} where
-  pub added-none : {table : List ℤ} (f : ℕ → ℕ → ℤ) → ((p b : ℕ) → f p b ≡ pos 0) → Added n f table table
+  pub added-none : {table : List ℤ} (f : ℕ → ℕ → ℤ) → ((p b : ℕ) → f p b ≡ pos 0) → AddedCells n f table table
   added-none {table} f h = record { same = refl; each = λ p b _ _. sym (ap (λ (z : ℤ). cell n table p b +ℤ z) (h p b) ∙ +ℤ-idr (cell n table p b)); past = λ k m. refl }
 
-  pub added-then : {f g : ℕ → ℕ → ℤ} {before table after : List ℤ} (h : ℕ → ℕ → ℤ) → Added n f before table → Added n g table after
-      → ((p b : ℕ) → p < 64 → b < n → f p b +ℤ g p b ≡ h p b) → Added n h before after
+  pub added-then : {f g : ℕ → ℕ → ℤ} {before table after : List ℤ} (h : ℕ → ℕ → ℤ) → AddedCells n f before table → AddedCells n g table after
+      → ((p b : ℕ) → p < 64 → b < n → f p b +ℤ g p b ≡ h p b) → AddedCells n h before after
   added-then {f} {g} {before} h x y e = record {
     same = y .same ∙ x .same;
     each = λ p b u l.
@@ -147,11 +148,11 @@ module _ {n : ℕ} where
     past = λ k m. y .past k m ∙ x .past k m;
   }
 
-  pub added-same : {f : ℕ → ℕ → ℤ} {before after : List ℤ} (h : ℕ → ℕ → ℤ) → Added n f before after → ((p b : ℕ) → p < 64 → b < n → f p b ≡ h p b) → Added n h before after
+  pub added-same : {f : ℕ → ℕ → ℤ} {before after : List ℤ} (h : ℕ → ℕ → ℤ) → AddedCells n f before after → ((p b : ℕ) → p < 64 → b < n → f p b ≡ h p b) → AddedCells n h before after
   added-same {f} {before} h x e = record { same = x .same; each = λ p b u l. x .each p b u l ∙ ap (λ (z : ℤ). cell n before p b +ℤ z) (e p b u l); past = x .past }
 
   -- it leaves one list
-  pub added-unique : {f : ℕ → ℕ → ℤ} {before after other : List ℤ} → Added n f before after → Added n f before other → after ≡ other
+  pub added-unique : {f : ℕ → ℕ → ℤ} {before after other : List ℤ} → AddedCells n f before after → AddedCells n f before other → after ≡ other
   added-unique {f} {before} {after} {other} x y = ext-getD (pos 0) after other (x .same ∙ sym (y .same)) (λ k _. by k (decLt k (64 * n)))
     where
       by : (k : ℕ) → Dec (k < 64 * n) → after at k ≡ other at k
@@ -163,7 +164,7 @@ module _ {n : ℕ} where
       by k (no l) = x .past k (omega arith) ∙ sym (y .past k (omega arith))
 
   -- a bound on what was there and on what is added
-  pub added-cells : {f : ℕ → ℕ → ℤ} {before after : List ℤ} {k m : ℕ} (most : ℕ) → Added n f before after → Cells n before k → ((p b : ℕ) → p < 64 → b < n → Within (f p b) m) → k + m ≤ most → Cells n after most
+  pub added-cells : {f : ℕ → ℕ → ℤ} {before after : List ℤ} {k m : ℕ} (most : ℕ) → AddedCells n f before after → Cells n before k → ((p b : ℕ) → p < 64 → b < n → Within (f p b) m) → k + m ≤ most → Cells n after most
   added-cells most x c w h = record { each = λ p b u l. subst (λ (z : ℤ). Within z most) (sym (x .each p b u l)) (w-up (w-add (c .each p b u l) (w p b u l)) h) }
 
 -- ---- there is room along a row and along a column
@@ -173,7 +174,7 @@ pub rows-fit : (n q c : ℕ) → n ≤ 64 → q < 64 → c < n → q * n + c < 4
 rows-fit n q c few h l = omega (arith, room q 64 n h)
 
 module _ {table parts : List ℤ} (n : ℕ) (few : n ≤ 64) (cells : Cells n table 1000000000000) where
-  pub row-room : (q : ℕ) → q < 64 → q * n + n ≤ length table → n ≤ length parts → InRange parts n 1000000000000 → Room table (q * n) 1 parts n
+  pub row-room : (q : ℕ) → q < 64 → q * n + n ≤ length table → n ≤ length parts → FrontWithin parts n 1000000000000 → Room table (q * n) 1 parts n
   row-room q h fits there small = record {
     few = few;
     given = there;
@@ -182,7 +183,7 @@ module _ {table parts : List ℤ} (n : ℕ) (few : n ≤ 64) (cells : Cells n ta
     small = small;
   }
 
-  pub column-room : (c : ℕ) → c < n → length table ≡ 4096 → 64 ≤ length parts → InRange parts 64 1000000000000 → Room table c n parts 64
+  pub column-room : (c : ℕ) → c < n → length table ≡ 4096 → 64 ≤ length parts → FrontWithin parts 64 1000000000000 → Room table c n parts 64
   column-room c h long there small = record {
     few = omega arith;
     given = there;
@@ -197,5 +198,5 @@ pub zero-cells : (n m : ℕ) → Cells n (replicate m (pos 0)) 0
 zero-cells n m = record { each = λ p b _ _. subst (λ (z : ℤ). Within z 0) (sym (zero-at m (p * n + b))) (w-lit tt) }
 
 -- what was added to zeros
-pub added-zeros : {n : ℕ} (m : ℕ) {f : ℕ → ℕ → ℤ} {after : List ℤ} → Added n f (replicate m (pos 0)) after → (p b : ℕ) → p < 64 → b < n → cell n after p b ≡ f p b
+pub added-zeros : {n : ℕ} (m : ℕ) {f : ℕ → ℕ → ℤ} {after : List ℤ} → AddedCells n f (replicate m (pos 0)) after → (p b : ℕ) → p < 64 → b < n → cell n after p b ≡ f p b
 added-zeros {n} m {f} x p b u l = x .each p b u l ∙ ap (λ (z : ℤ). z +ℤ f p b) (zero-at m (p * n + b)) ∙ +ℤ-idl (f p b)

@@ -1,5 +1,5 @@
--- What holds of every accepted assignment: demand 3 (document 00) for each of its splits, that at each bus the load handed out is the load that was
--- there, that with metering the buses' loads total the metered load, and that nobody's kW is below zero. Assumes nothing.
+-- What holds of every accepted assignment: `demand-3` at the end, and before it the laws of which it is made: each split is fair, at each bus the load
+-- handed out is the load that was there, with metering the buses' loads total the metered load, and nobody's kW is below zero. Assumes nothing.
 use mathlib.Core.Path.{_≡_, refl, sym, ap, ap₂, _∙_, subst}
 use mathlib.Core.Logic.{_⊎_, inl, inr, ⊎-elim}
 use mathlib.Core.Bool.{Bool, true, false}
@@ -25,15 +25,14 @@ use Rattle.ints.proofs.Turns.{then-none}
 use Rattle.split.specs.Fair.{Fair}
 use Rattle.split.specs.Split.{total, parts}
 use Rattle.split.proofs.Demand3.{fair}
-use Rattle.load.specs.Demand3.{FairLoad}
-use Rattle.load.specs.Facts.{Ranged, Splits}
-use Rattle.load.specs.Load.{isMetered, meteredLoad, busLoads, supplier, area, kw, count, partsOf, contractParts, contractAt, contractLoad, contracted, auctioned, Given, buses, busLoad, rest, assigned, assignment}
-use Rattle.load.specs.Order.{tests, meters, cover, refusal}
-use Rattle.load.specs.Table.{cell}
+use Rattle.load.specs.Fair.{FairLoad}
+use Rattle.load.specs.Inside.{Ranged, Splittable}
+use Rattle.load.specs.Load.{identity, isMetered, meteredLoad, busLoads, supplier, area, kw, contractCount, partsOf, contractParts, contractAt, contractLoad, contracted, LoadGiven, buses, busLoad, rest, restPart, assigned, assignment, cell}
+use Rattle.load.specs.Order.{listsRefusal, metersRefusal, contractsRefusal, loadRefusal}
 use Rattle.load.proofs.Accepted.{Tested, tested, naturals-of}
-use Rattle.load.proofs.Assigned.{metered-splits, bus-load-ranged}
+use Rattle.load.proofs.Assigned.{metered-splits, bus-load-ranged, length-assignment}
 use Rattle.load.proofs.Handed.{stays, is-shared, splits-over, contract-natural, contracted-natural, left-ranged, natural-sum}
-use Rattle.load.proofs.Meters.{metered-loads}
+use Rattle.load.proofs.Meters.{unmetered-loads, metered-loads}
 use Rattle.load.proofs.Splits.{part-ranged}
 use Rattle.load.proofs.Tables.{row-of, column-of}
 
@@ -55,19 +54,25 @@ sum-not-below {m = m} {k = k} e f = ap₂ (λ (x y : ℤ). below0 (x +ℤ y)) e 
 
 -- ---- the result is participant by participant: number p * buses + b is what participant p is assigned at bus b
 
-pub assignment-at : (d : Given) (p b : ℕ) → p < 64 → b < buses d → cell (buses d) (assignment d) p b ≡ assigned d p b
+pub assignment-at : (d : LoadGiven) (p b : ℕ) → p < 64 → b < buses d → cell (buses d) (assignment d) p b ≡ assigned d p b
 unfolding assignment
 assignment-at d p b u l =
     getD-tab (λ k. assigned d (k / buses d) (k % buses d)) (pos 0) (64 * buses d) (p * buses d + b) (omega (arith, room p 64 (buses d) u))
     ∙ ap₂ (assigned d) (row-of (buses d) p b l) (column-of (buses d) p b l)
 
-module _ (d : Given) (n : ℕ) (accepts : refusal d n ≡ 0) where
+-- by the contracts' parts
+assigned-is : (d : LoadGiven) (p b : ℕ)
+    → assigned d p b ≡ sumTo (λ j. only (eqb (identity (supplier (d .contracts) j)) p) (contractParts (buses d) (d .areaParts) (d .contracts) j at b)) (contractCount (d .contracts)) +ℤ restPart d b p
+unfolding contractAt
+assigned-is d p b = refl
+
+module _ (d : LoadGiven) (n : ℕ) (accepts : loadRefusal d n ≡ 0) where
   -- no group of the order refuses anything
-  groups : (tests d n ≡ 0) × (meters (d .metered) (d .loads) (d .imports) (d .generation) ≡ 0) × (cover (buses d) (d .areaParts) (d .contracts) (busLoad d) ≡ 0)
-  unfolding refusal
+  groups : (listsRefusal d n ≡ 0) × (metersRefusal (d .metered) (d .loads) (d .imports) (d .generation) ≡ 0) × (contractsRefusal (buses d) (d .areaParts) (d .contracts) (busLoad d) ≡ 0)
+  unfolding loadRefusal
   groups =
-      let p = then-none (tests d n) _ accepts in
-      let q = then-none (meters (d .metered) (d .loads) (d .imports) (d .generation)) _ (p .1) in
+      let p = then-none (listsRefusal d n) _ accepts in
+      let q = then-none (metersRefusal (d .metered) (d .loads) (d .imports) (d .generation)) _ (p .1) in
       (p .0, q .0, q .1)
 
   facts : Tested d n
@@ -82,12 +87,12 @@ module _ (d : Given) (n : ℕ) (accepts : refusal d n ≡ 0) where
       (fair (meteredLoad (d .imports) (d .generation)) (d .loads) (length (d .loads)) (metered-splits (d .metered) (d .loads) (d .imports) (d .generation) (facts .meters-given) (groups .1) on .accepted))
 
   -- each contract over its area
-  pub contract-fair : (j : ℕ) → j < count (d .contracts) → Fair (kw (d .contracts) j) (partsOf (buses d) (d .areaParts) (natAbs (area (d .contracts) j))) (contractParts (buses d) (d .areaParts) (d .contracts) j)
-  contract-fair j h = fair (kw (d .contracts) j) (partsOf (buses d) (d .areaParts) (natAbs (area (d .contracts) j))) _ (facts .contracts-given .splits j h .accepted)
+  pub contract-fair : (j : ℕ) → j < contractCount (d .contracts) → Fair (kw (d .contracts) j) (partsOf (buses d) (d .areaParts) (identity (area (d .contracts) j))) (contractParts (buses d) (d .areaParts) (d .contracts) j)
+  contract-fair j h = fair (kw (d .contracts) j) (partsOf (buses d) (d .areaParts) (identity (area (d .contracts) j))) _ (facts .contracts-given .splits j h .accepted)
 
   -- what remains at a bus
   rest-ranged : (b : ℕ) → b < buses d → Ranged (rest d b)
-  unfolding cover
+  unfolding contractsRefusal
   rest-ranged b l =
       left-ranged (busLoad d b) (contracted (buses d) (d .areaParts) (d .contracts) b)
       (bus-load-ranged (d .metered) (d .loads) (d .imports) (d .generation) (facts .meters-given) (groups .1) (naturals-of 20000000 (facts .ranges-pass .loads-in)) b l)
@@ -97,15 +102,15 @@ module _ (d : Given) (n : ℕ) (accepts : refusal d n ≡ 0) where
   module _ (b : ℕ) (l : b < buses d) where
     -- participant p's part of it
     abbrev won : ℕ → ℤ
-    won = auctioned (natAbs (d .distributor)) (d .tranches) (rest d b)
+    won = restPart d b
 
     module _ (some : total (d .tranches) ≡ 0 → ⊥) where
-      rest-splits : Splits (rest d b) (d .tranches)
+      rest-splits : Splittable (rest d b) (d .tranches)
       rest-splits = splits-over (facts .auction-given) (rest-ranged b l) some
 
       -- over the winners of tranches
       pub rest-fair : Fair (rest d b) (d .tranches) (parts (rest d b) (d .tranches)) × ((p : ℕ) → won p ≡ parts (rest d b) (d .tranches) at p)
-      rest-fair = (fair (rest d b) (d .tranches) (length (d .tranches)) (rest-splits .accepted), λ p. is-shared (natAbs (d .distributor)) (d .tranches) (rest d b) p some)
+      rest-fair = (fair (rest d b) (d .tranches) (length (d .tranches)) (rest-splits .accepted), λ p. is-shared (identity (d .distributor)) (d .tranches) (rest d b) p some)
 
       won-all : sumTo won 64 ≡ rest d b
       won-all =
@@ -117,10 +122,10 @@ module _ (d : Given) (n : ℕ) (accepts : refusal d n ≡ 0) where
 
     module _ (none : total (d .tranches) ≡ 0) where
       kept-all : sumTo won 64 ≡ rest d b
-      kept-all = sumTo-ext won (λ p. only (eqb (natAbs (d .distributor)) p) (rest d b)) 64 (λ p _. stays (natAbs (d .distributor)) (d .tranches) (rest d b) p none) ∙ one-has (natAbs (d .distributor)) (rest d b) (facts .auction-given .named)
+      kept-all = sumTo-ext won (λ p. only (eqb (identity (d .distributor)) p) (rest d b)) 64 (λ p _. stays (identity (d .distributor)) (d .tranches) (rest d b) p none) ∙ one-has (identity (d .distributor)) (rest d b) (facts .auction-given .named)
 
       kept-natural : (p : ℕ) → won p ≡ pos (natAbs (won p))
-      kept-natural p = subst (λ (z : ℤ). z ≡ pos (natAbs z)) (sym (stays (natAbs (d .distributor)) (d .tranches) (rest d b) p none)) (only-natural (eqb (natAbs (d .distributor)) p) (rest d b) (rest-ranged b l .natural))
+      kept-natural p = subst (λ (z : ℤ). z ≡ pos (natAbs z)) (sym (stays (identity (d .distributor)) (d .tranches) (rest d b) p none)) (only-natural (eqb (identity (d .distributor)) p) (rest d b) (rest-ranged b l .natural))
 
     tranche : (total (d .tranches) ≡ 0) ⊎ (total (d .tranches) ≡ 0 → ⊥)
     tranche = ⊎-elim (λ t. inl (eqb-true (total (d .tranches)) 0 t)) (λ t. inr (eqb-false (total (d .tranches)) 0 t)) (either (eqb (total (d .tranches)) 0))
@@ -129,8 +134,8 @@ module _ (d : Given) (n : ℕ) (accepts : refusal d n ≡ 0) where
 
     contracts-all : sumTo (λ p. contractLoad (buses d) (d .areaParts) (d .contracts) p b) 64 ≡ contracted (buses d) (d .areaParts) (d .contracts) b
     contracts-all =
-        sumTo-swap (λ p j. only (eqb (natAbs (supplier (d .contracts) j)) p) (contractAt (buses d) (d .areaParts) (d .contracts) j b)) 64 (count (d .contracts))
-        ∙ sumTo-ext _ _ (count (d .contracts)) (λ j h. one-has (natAbs (supplier (d .contracts) j)) (contractAt (buses d) (d .areaParts) (d .contracts) j b) (facts .contracts-given .supplied j h))
+        sumTo-swap (λ p j. only (eqb (identity (supplier (d .contracts) j)) p) (contractAt (buses d) (d .areaParts) (d .contracts) j b)) 64 (contractCount (d .contracts))
+        ∙ sumTo-ext _ _ (contractCount (d .contracts)) (λ j h. one-has (identity (supplier (d .contracts) j)) (contractAt (buses d) (d .areaParts) (d .contracts) j b) (facts .contracts-given .supplied j h))
 
     pub handed-out : sumTo (λ p. assigned d p b) 64 ≡ busLoad d b
     handed-out =
@@ -141,30 +146,35 @@ module _ (d : Given) (n : ℕ) (accepts : refusal d n ≡ 0) where
     -- ---- nobody's kW is below zero
 
     pub not-below : (p : ℕ) → p < 64 → below0 (assigned d p b) ≡ false
-    not-below p u = sum-not-below (natural-sum given (λ j. natAbs (given j)) (count (d .contracts)) contract) (⊎-elim (λ z. kept-natural z p) (λ s. won-natural s p u) tranche)
+    not-below p u = sum-not-below (natural-sum given (λ j. natAbs (given j)) (contractCount (d .contracts)) contract) (⊎-elim (λ z. kept-natural z p) (λ s. won-natural s p u) tranche)
       where
         given : ℕ → ℤ
-        given j = only (eqb (natAbs (supplier (d .contracts) j)) p) (contractAt (buses d) (d .areaParts) (d .contracts) j b)
+        given j = only (eqb (identity (supplier (d .contracts) j)) p) (contractAt (buses d) (d .areaParts) (d .contracts) j b)
 
-        contract : (j : ℕ) → j < count (d .contracts) → given j ≡ pos (natAbs (given j))
+        contract : (j : ℕ) → j < contractCount (d .contracts) → given j ≡ pos (natAbs (given j))
         contract j h =
             let e = contract-natural (buses d) (d .areaParts) (d .contracts) (facts .contracts-given) j b h l in
-            only-natural (eqb (natAbs (supplier (d .contracts) j)) p) (contractAt (buses d) (d .areaParts) (d .contracts) j b) (e ∙ ap (λ (z : ℤ). pos (natAbs z)) (sym e))
+            only-natural (eqb (identity (supplier (d .contracts) j)) p) (contractAt (buses d) (d .areaParts) (d .contracts) j b) (e ∙ ap (λ (z : ℤ). pos (natAbs z)) (sym e))
 
   -- ---- with metering the loads at the buses total the metered load
 
   pub metered-total : isMetered (d .metered) ≡ true → sumTo (busLoad d) (buses d) ≡ meteredLoad (d .imports) (d .generation)
   metered-total on = metered-fair on .adds-up
 
-  -- ---- demand 3
+  -- ---- demand 3, of what is given and of the table that is the result
 
-  pub demand-3 : FairLoad d
+  pub demand-3 : FairLoad d (assignment d)
   demand-3 = record {
     metered = metered-fair;
+    unmetered = unmetered-loads (d .metered) (d .loads) (d .imports) (d .generation);
     contract = contract-fair;
     auction = λ b l some. let f = rest-fair b l some in
         subst (Fair (rest d b) (d .tranches))
         (tab-self (pos 0) (parts (rest d b) (d .tranches)) ∙ ap (tab (λ p. parts (rest d b) (d .tranches) at p)) (f .0 .one-each ∙ facts .auction-given .all) ∙ tab-ext _ _ 64 (λ p _. sym (f .1 p)))
         (f .0);
+    no-tranche = λ b none p. stays (identity (d .distributor)) (d .tranches) (rest d b) p none;
+    long = length-assignment d n accepts ∙ facts .lengths-pass .result-long;
+    holds = λ p b u l. assignment-at d p b u l ∙ assigned-is d p b;
+    not-below = λ p b u l. ap below0 (assignment-at d p b u l) ∙ not-below b l p u;
     handed-out = λ b l. sumTo-ext _ _ 64 (λ p u. assignment-at d p b u l) ∙ handed-out b l;
   }

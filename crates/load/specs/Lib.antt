@@ -1,6 +1,7 @@
 pub mod Load
 pub mod Order
-pub mod Table
-pub mod Demand3
-pub mod Facts
+pub mod Fair
+pub mod InsideTable
+pub mod Inside
 pub mod Cases
+pub mod CasesOrder

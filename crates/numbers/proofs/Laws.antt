@@ -7,18 +7,21 @@ use native.Mathlib.Decide.{decLt, ℕ-discrete}
 use native.Mathlib.Nat.{mod-add-div, div-lt-iff-lt-mul, pow-suc}
 use native.Mathlib.Numerals.{add-one}
 use native.Mathlib.Omega.{arith}
-use lib.Dec.{ltb}
+use lib.Dec.{T, ltb}
 use lib.IntN.{ℤ, pos, negsuc}
 use lib.ListN.{length, getD, take, drop, set, length-set, length-append, length-drop, take-append-drop, drop-of-length-le}
 use lib.Seq.{take-at, drop-at, take-all, take-add, take-suc, drop-drop, length-take-le, take-append-le, drop-append-le, drop-append-add, ext-getD, getD-take, getD-drop, getD-set-same, getD-set-other}
 use mir.Syntax.{w64}
 use mir.Val.{SFits}
 use borrow.Author.Tests.{lt-ltb, le-ltb}
+use Rattle.ints.specs.InsideRange.{InRange}
 use Rattle.ints.specs.Refusal.{pick}
 use Rattle.ints.specs.Table.{_at_, tab}
 use Rattle.ints.specs.Twos.{twos, bitsOf}
+use Rattle.ints.proofs.Sizes.{w-fits}
 use Rattle.ints.proofs.Tables.{length-tab, getD-tab}
-use Rattle.numbers.specs.Bytes.{lowestFirst, bytesOf, number, eight, numberAt, withNumber, numbers, encoded}
+use Rattle.numbers.specs.Bytes.{lowestFirst, bytesOf, number, eight, numberAt, numbers, encoded}
+use Rattle.numbers.specs.Inside.{withNumber}
 
 -- ---- one number
 
@@ -126,6 +129,10 @@ numbers-encoded l f =
     let k : length (encoded l) / 8 ≡ length l = omega (arith, length-encoded l) in
     let n : length (numbers (encoded l)) ≡ length l = length-numbers (encoded l) ∙ k in
     ext-getD (pos 0) (numbers (encoded l)) l n (λ i h. numbers-at (encoded l) i (omega arith) ∙ encoded-at l f i (omega arith))
+
+-- .. where they are within a bound that computes below 2 ^ 63: `read-back r tt`
+pub read-back : {l : List ℤ} {k : ℕ} → InRange l k → T (ltb k (2 ^ 63)) → numbers (encoded l) ≡ l
+read-back {l} r t = numbers-encoded l (λ i. w-fits (r .each i) t)
 
 part-bytes : (s : List ℕ) (k n : ℕ) → k + n ≤ length s → Bytes s → Bytes (take n (drop k s))
 part-bytes s k n h b =

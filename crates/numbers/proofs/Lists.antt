@@ -5,7 +5,8 @@ use Prim.Native.Nat.{ℕ, _/_, _%_, _≤_}
 use lib.Dec.{leb}
 use borrow.Author.Tests.{leb-true, eqb-true}
 use Rattle.ints.proofs.Bools.{and-true}
-use Rattle.numbers.specs.Lists.{whole, listed}
+use Rattle.numbers.specs.Lists.{whole}
+use Rattle.numbers.specs.Inside.{listed}
 
 module _ (bytes most : ℕ) (e : listed bytes most ≡ true) where
   pub is-whole : bytes % 8 ≡ 0

@@ -7,7 +7,7 @@ use native.Mathlib.Omega.{arith}
 use lib.ListN.{length, getD, take, drop, set}
 use lib.Seq.{drop-cons}
 use Rattle.numbers.specs.Bytes.{lowestFirst, bytesOf}
-use Rattle.numbers.specs.Words.{wordFrom}
+use Rattle.numbers.specs.Inside.{wordFrom}
 
 -- the lowest of the bytes from i on, and the others
 next : (s : List ℕ) (i j n : ℕ) → j ≡ suc i → i < length s → lowestFirst (take (suc n) (drop i s)) ≡ getD s i 0 + 256 * lowestFirst (take n (drop j s))

@@ -7,7 +7,7 @@ use lib.ListN.{length, take, drop}
 use Rattle.ints.specs.Table.{tab}
 use Rattle.ints.specs.Twos.{twos, bitsOf}
 
--- the number of bytes, lowest first
+-- the number that bytes stand for, the lowest byte first
 unfoldable pub lowestFirst : List ℕ → ℕ
 lowestFirst [] = 0
 lowestFirst (b ∷ bs) = b + 256 * lowestFirst bs
@@ -24,12 +24,9 @@ number bytes = twos 64 (lowestFirst bytes)
 abbrev pub eight : ℤ → List ℕ
 eight z = bytesOf 8 (bitsOf 64 z)
 
--- the number at i, and the bytes with z in its place
+-- the number at i
 abbrev pub numberAt : List ℕ → ℕ → ℤ
 numberAt s i = number (take 8 (drop (8 * i) s))
-
-abbrev pub withNumber : List ℕ → ℕ → ℤ → List ℕ
-withNumber s i z = take (8 * i) s ++ (eight z ++ drop (8 * i + 8) s)
 
 -- the list that bytes stand for, and the bytes of a list
 abbrev pub numbers : List ℕ → List ℤ

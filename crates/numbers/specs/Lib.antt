@@ -1,4 +1,4 @@
 pub mod Bytes
-pub mod Words
+pub mod Inside
 pub mod Cases
 pub mod Lists

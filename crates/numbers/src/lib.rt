@@ -3,12 +3,12 @@ ghost use mathlib.Core.Path.{_≡_};
 ghost use Prim.Native.Nat.{_+_, _*_, _≤_, _<_};
 ghost use lib.ListN.{length};
 ghost use Rattle.ints.specs.Twos.{twos, bitsOf};
-ghost use Rattle.numbers.specs.Bytes.{bytesOf, numberAt, withNumber, numbers, encoded};
-ghost use Rattle.numbers.specs.Lists.{listed};
-ghost use Rattle.numbers.specs.Words.{fourFrom, wordFrom};
+ghost use Rattle.numbers.specs.Bytes.{bytesOf, numberAt, numbers, encoded};
+ghost use Rattle.numbers.specs.Inside.{listed};
+ghost use Rattle.numbers.specs.Inside.{fourFrom, wordFrom, withNumber};
 
 // The four bytes from k on, the lowest first.
-fn four_at(s: &[u8], k: usize) -> u64
+fn four_from(s: &[u8], k: usize) -> u64
     requires { ⌜ k + 4 ≤ length (now s) ⌝ }
     ensures { λ r. ⌜ r ≡ fourFrom (now (s .entry)) k × (r < 4294967296) ⌝ }
 {
@@ -19,11 +19,11 @@ fn four_at(s: &[u8], k: usize) -> u64
 }
 
 // The eight bytes from k on, the lowest first.
-fn word_at(s: &[u8], k: usize) -> u64
+fn word_from(s: &[u8], k: usize) -> u64
     requires { ⌜ k + 8 ≤ length (now s) ⌝ }
     ensures { λ r. ⌜ r ≡ wordFrom (now (s .entry)) k ⌝ }
 {
-    four_at(s, k) + 4294967296 * four_at(s, k + 4)
+    four_from(s, k) + 4294967296 * four_from(s, k + 4)
 }
 
 // A slice of eight bytes becomes those of u.
@@ -42,7 +42,7 @@ fn put_word(out: &mut [u8], u: u64)
 }
 
 // The number of 64 bits. `!x` is -x - 1.
-fn from_bits(u: u64) -> i64
+fn from_word(u: u64) -> i64
     ensures { λ r. ⌜ r ≡ twos 64 u ⌝ }
 {
     if u < 9223372036854775808 {
@@ -53,7 +53,7 @@ fn from_bits(u: u64) -> i64
 }
 
 // The 64 bits of a number.
-fn to_bits(z: i64) -> u64
+fn to_word(z: i64) -> u64
     ensures { λ r. ⌜ r ≡ bitsOf 64 z ⌝ }
 {
     if z < 0 {
@@ -68,7 +68,7 @@ fn number_at(s: &[u8], i: usize) -> i64
     requires { ⌜ 8 * i + 8 ≤ length (now s) ⌝ }
     ensures { λ r. ⌜ r ≡ numberAt (now (s .entry)) i ⌝ }
 {
-    from_bits(word_at(s, 8 * i))
+    from_word(word_from(s, 8 * i))
 }
 
 // The number at i of a list becomes z.
@@ -78,7 +78,7 @@ fn put_number(out: &mut [u8], i: usize, z: i64)
 {
     let k = 8 * i;
     let e = k + 8;
-    put_word(&mut out[k..e], to_bits(z));
+    put_word(&mut out[k..e], to_word(z));
 }
 
 // The numbers of a list, read.

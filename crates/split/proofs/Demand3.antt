@@ -17,12 +17,12 @@ use Rattle.ints.proofs.Signs.{signed-is, size-signed, signed-zero, signed-add, 
 use Rattle.ints.proofs.Sums.{sumTo-ext}
 use Rattle.ints.proofs.Tables.{getD-tab}
 use Rattle.split.specs.Fair.{Fair, proportion, further}
-use Rattle.split.specs.Split.{share, total, cutDown, remainder, before, hasUnit, part, parts, refusal}
+use Rattle.split.specs.Split.{share, total, cutDown, remainder, before, hasUnit, part, parts, splitRefusal}
 use Rattle.split.proofs.Accepted.{Accepted, accepted}
 use Rattle.split.proofs.Laws.{length-parts, part-is, part-sum, zero-part, larger-part, unit-before, no-size}
 use Rattle.split.proofs.Order.{says-before}
 
-module _ (amount : ℤ) (shares : List ℤ) (n : ℕ) (accepts : refusal amount shares n ≡ 0) where
+module _ (amount : ℤ) (shares : List ℤ) (n : ℕ) (accepts : splitRefusal amount shares n ≡ 0) where
   abbrev b : Bool
   b = below0 amount
 

@@ -12,9 +12,9 @@ use lib.ListN.{length}
 use borrow.Author.Tests.{lt-ltb, le-ltb, ltb-true}
 use Rattle.ints.specs.Number.{below0, signed}
 use Rattle.ints.specs.Sum.{sumN, one, count}
-use Rattle.ints.proofs.Counts.{sumN-ext, sumN-le, sumN-plus, sumN-scale, sumN-most, sumN-part, sumN-term, one-most, one-le}
+use Rattle.ints.proofs.Counts.{sumN-ext, sumN-le, sumN-plus, sumN-scale, sumN-most, sumN-part, one-most, one-le}
 use Rattle.ints.proofs.Tables.{length-tab}
-use Rattle.split.specs.Given.{Shares}
+use Rattle.split.specs.Inside.{Shares}
 use Rattle.split.specs.Split.{share, total, cutDown, remainder, unitsLeft, before, place, hasUnit, part, parts}
 use Rattle.split.proofs.Order.{ranks, says-before, place-lt}
 
@@ -159,9 +159,6 @@ module _ (size : ℕ) (shares : List ℤ) where
     -- ---- sizes, for the code
     pub cut-front : (i : ℕ) → i ≤ n → sumN q i ≤ size
     cut-front i l = omega (arith, sumN-part q i n l, cut-sum)
-
-    pub part-most : (i : ℕ) → i < n → part size shares i ≤ size + 1
-    part-most i l = omega (arith, part-is i, sumN-term q i n l, cut-sum, one-most (hasUnit size shares i))
 
 -- at most 64 shares of at most 4,000,000,000
 pub total-most : (shares : List ℤ) → Shares shares → total shares ≤ 256000000000

@@ -1,7 +1,5 @@
 pub mod Order
 pub mod Laws
-pub mod Floors
-pub mod Parts
 pub mod Accepted
+pub mod Sizes
 pub mod Demand3
-pub mod Unique

@@ -1,4 +1,4 @@
 pub mod Split
 pub mod Fair
-pub mod Given
+pub mod Inside
 pub mod Cases

@@ -10,14 +10,15 @@ use Rattle.ints.specs.Refusal.{unless, lent}
 use Rattle.ints.specs.Sum.{sumN, count, one}
 use Rattle.ints.specs.Table.{_at_, tab, all}
 
--- party i's share, and the total of shares
+-- party i's share, and the total of shares. A share is its size here: one below 0 is refused (2)
 abbrev pub share : List ℤ → ℕ → ℕ
 share shares i = natAbs (shares at i)
 
 unfoldable pub total : List ℤ → ℕ
 total shares = sumN (share shares) (length shares)
 
--- "each party gets size times share divided by the total of shares, cut down", and the remainder of that
+-- "each party gets size times share divided by the total of shares, cut down", and the remainder of that. "Total 0 with amount 0 gives all zeros.": n / 0 is 0 in this
+-- language, and no unit is left
 unfoldable pub cutDown : ℕ → List ℤ → ℕ → ℕ
 cutDown size shares i = size * share shares i / total shares
 
@@ -37,7 +38,7 @@ before r j i = ltb (r i) (r j) || (eqb (r j) (r i) && ltb j i)
 unfoldable pub place : (ℕ → ℕ) → ℕ → ℕ → ℕ
 place r n i = count (λ j. before r j i) n
 
--- "go one each to" these: to whom fewer parties come before than units are left
+-- "go one each to" these: those that have fewer parties before them than there are units left
 abbrev pub hasUnit : ℕ → List ℤ → ℕ → Bool
 hasUnit size shares i = ltb (place (remainder size shares) (length shares) i) (unitsLeft size shares)
 
@@ -50,8 +51,8 @@ unfoldable pub parts : ℤ → List ℤ → List ℤ
 parts amount shares = tab (λ i. signed (below0 amount) (part (natAbs amount) shares i)) (length shares)
 
 -- "Order: 1, 2 (amount, then shares), 7", for shares and a list of n numbers that is lent for the parts
-unfoldable pub refusal : ℤ → List ℤ → ℕ → ℕ
-refusal amount shares n =
+unfoldable pub splitRefusal : ℤ → List ℤ → ℕ → ℕ
+splitRefusal amount shares n =
     unless (leb 1 (length shares)) 1
     (unless (leb (length shares) 64) 1
     (unless (eqb n (length shares)) 1
@@ -61,5 +62,5 @@ refusal amount shares n =
     0)))))
 
 -- what the lent list then holds
-abbrev pub outcome : ℤ → List ℤ → List ℤ → List ℤ
-outcome amount shares old = lent (refusal amount shares (length old)) (parts amount shares) old
+abbrev pub splitOutcome : ℤ → List ℤ → List ℤ → List ℤ
+splitOutcome amount shares old = lent (splitRefusal amount shares (length old)) (parts amount shares) old

@@ -16,8 +16,8 @@ use mir.Val.{Fits, SFits}
 use borrow.Author.Tests.{lt-ltb, le-ltb}
 use Rattle.ints.specs.Number.{below0}
 use Rattle.ints.specs.Refusal.{pick}
-use Rattle.text.specs.Decimal.{digit, digitsIn, digits, sign, decimal}
-use Rattle.text.specs.Written.{Written}
+use Rattle.text.specs.Decimal.{digit, digitsIn, digits, signText, decimal}
+use Rattle.text.specs.Inside.{Written}
 
 -- ---- one thing after the other
 
@@ -114,6 +114,6 @@ length-in (suc most) k n l = by (decLt n 10) k l (λ k l. length-in most k (n / 
 pub length-decimal : (z : ℤ) → SFits w64 z → length (decimal z) ≤ 20
 length-decimal z f = by (below0 z)
   where
-    by : (b : Bool) → length (sign b ++ digits (natAbs z)) ≤ 20
+    by : (b : Bool) → length (signText b ++ digits (natAbs z)) ≤ 20
     by true = omega (arith, length-in 20 18 (natAbs z) (omega (arith, natAbs-le z (f .sfits))))
     by false = omega (arith, length-in 20 18 (natAbs z) (omega (arith, natAbs-le z (f .sfits))))

@@ -21,9 +21,9 @@ digitsIn (suc most) n = pick (ltb n 10) (digit n ∷ []) (digitsIn most (n / 10)
 abbrev pub digits : ℕ → List ℕ
 digits n = digitsIn 20 n
 
-abbrev pub sign : Bool → List ℕ
-sign true = ascii "-"
-sign false = []
+abbrev pub signText : Bool → List ℕ
+signText true = ascii "-"
+signText false = []
 
 abbrev pub decimal : ℤ → List ℕ
-decimal z = sign (below0 z) ++ digits (natAbs z)
+decimal z = signText (below0 z) ++ digits (natAbs z)

@@ -1,4 +1,4 @@
 pub mod Ascii
 pub mod Decimal
-pub mod Written
+pub mod Inside
 pub mod Cases

@@ -6,7 +6,7 @@ use Rattle.units.specs.declared.Cents.{Cents}
 use Rattle.units.specs.declared.Kw.{Kw}
 use Rattle.units.specs.declared.Mills.{Mills}
 use Rattle.units.specs.declared.Twelfths.{Twelfths}
-use Rattle.units.proofs.charge.Reads as charge
+use Rattle.units.proofs.charge_of.Reads as charge-of
 use Rattle.units.proofs.reimbursed.Reads as reimbursed
 use Rattle.units.proofs.rise.Reads as rise
 use Rattle.units.proofs.to_cents.Reads as to-cents
@@ -15,7 +15,7 @@ use Rattle.units.proofs.whole_hour.Reads as whole-hour
 -- ---- what each contract says of a result r. `F.Post` is the `ensures` of F, over lifetimes, arguments, result and arguments at exit
 
 abbrev Charge : Kw → Mills → Twelfths → Type 0
-Charge kw price r = charge.Post tt (kw, (price, tt)) r (kw, (price, tt))
+Charge kw price r = charge-of.Post tt (kw, (price, tt)) r (kw, (price, tt))
 
 abbrev WholeHour : Mills → Mills → Type 0
 WholeHour price r = whole-hour.Post tt (price, tt) r (price, tt)
@@ -31,8 +31,8 @@ ToCents amount r = to-cents.Post tt (amount, tt) r (amount, tt)
 
 -- ---- two results
 
-pub charge-unique : (kw : Kw) (price : Mills) (r s : Twelfths) → Charge kw price r → Charge kw price s → r ≡ s
-charge-unique kw price r s p q = ap (λ (n : ℤ). record { 0 = n }) (unique p q)
+pub charge-of-unique : (kw : Kw) (price : Mills) (r s : Twelfths) → Charge kw price r → Charge kw price s → r ≡ s
+charge-of-unique kw price r s p q = ap (λ (n : ℤ). record { 0 = n }) (unique p q)
 
 pub whole-hour-unique : (price r s : Mills) → WholeHour price r → WholeHour price s → r ≡ s
 whole-hour-unique price r s p q = ap (λ (n : ℤ). record { 0 = n }) (unique p q)

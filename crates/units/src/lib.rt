@@ -3,10 +3,11 @@
 ghost use mathlib.Core.Path.{_≡_};
 ghost use Prim.Native.Nat.{_≤_};
 ghost use lib.IntN.{pos, negℤ, _-ℤ_};
-ghost use Rattle.ints.specs.Number.{Within};
-ghost use Rattle.units.specs.Units.{chargeOf, wholeHour, centsOf};
+ghost use Rattle.ints.specs.InsideRange.{Within};
+ghost use Rattle.units.specs.Units.{centsOf};
+ghost use Rattle.units.specs.Inside.{chargeOf, wholeHour};
 
-// Kilowatts, 0 to 20,000,000.
+// Kilowatts. That they are 0 to 20,000,000 is tested where they are read, and asked for by `charge_of`.
 pub struct Kw(pub u32);
 
 // Mills (0.001 dollar) per MWh: a price, or a weight made of prices.
@@ -18,8 +19,8 @@ pub struct Twelfths(pub i64);
 // Cents: a charge as it is billed.
 pub struct Cents(pub i64);
 
-// The charge of kW at a price, for one interval. A weight is at most that of a path: 24 prices at each of its two ends.
-pub fn charge(kw: Kw, price: Mills) -> Twelfths
+// The charge of kW at a price, for one interval, or at a weight. A weight is at most that of a path: 24 prices at each of its two ends.
+pub fn charge_of(kw: Kw, price: Mills) -> Twelfths
     requires { ⌜ (kw .0 ≤ 20000000) × Within (price .0) 240000000 ⌝ }
     ensures { λ r. ⌜ r .0 ≡ chargeOf (pos (kw .0)) (price .0) ⌝ }
 {

@@ -1,2 +1,4 @@
 pub mod Loads
 pub mod Unique
+pub mod InsideDemands
+pub mod Demands

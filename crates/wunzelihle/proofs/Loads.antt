@@ -11,11 +11,12 @@ use Rattle.ints.specs.Refusal.{unless}
 use Rattle.ints.proofs.Bools.{and-true}
 use Rattle.numbers.specs.Bytes.{numbers}
 use Rattle.numbers.proofs.Laws.{length-numbers}
-use Rattle.load.specs.Order.{refusal}
+use Rattle.load.specs.Order.{loadRefusal}
 use Rattle.load.proofs.Lengths.{too-long}
-use Rattle.numbers.specs.Lists.{whole, listed}
-use Rattle.crossing.specs.Load.{givenBytes, AllListed}
-use Rattle.wunzelihle.specs.Load.{loadRefusal}
+use Rattle.numbers.specs.Lists.{whole}
+use Rattle.numbers.specs.Inside.{listed}
+use Rattle.load_bytes.specs.Inside.{AllListed}
+use Rattle.wunzelihle.specs.Load.{loadBytesGiven, loadBytesRefusal}
 
 -- a line that gives 1, as all later ones do where its test holds
 one-line : (t : Bool) (later : ℕ) → (t ≡ true → later ≡ 1) → unless t 1 later ≡ 1
@@ -24,8 +25,8 @@ one-line false later h = refl
 
 module _ (metered distributor : ℤ) (loads imports generation : List ℕ) (areas : ℤ) (areaParts contracts tranches : List ℕ) (bytes : ℕ) where
   -- a slice that is no list, or is too long
-  pub not-listed : (AllListed loads imports generation areaParts contracts tranches bytes → ⊥) → loadRefusal metered distributor loads imports generation areas areaParts contracts tranches bytes ≡ 1
-  unfolding loadRefusal
+  pub not-listed : (AllListed loads imports generation areaParts contracts tranches bytes → ⊥) → loadBytesRefusal metered distributor loads imports generation areas areaParts contracts tranches bytes ≡ 1
+  unfolding loadBytesRefusal
   not-listed ragged =
       one-line (whole (length loads)) _ (λ a.
       one-line (whole (length imports)) _ (λ b.
@@ -34,7 +35,7 @@ module _ (metered distributor : ℤ) (loads imports generation : List ℕ) (area
       one-line (whole (length contracts)) _ (λ e.
       one-line (whole (length tranches)) _ (λ f.
       one-line (whole bytes) _ (λ g.
-      too-long (givenBytes metered distributor loads imports generation areas areaParts contracts tranches) (bytes / 8)
+      too-long (loadBytesGiven metered distributor loads imports generation areas areaParts contracts tranches) (bytes / 8)
       (λ h. ragged (record {
         loads-listed = short loads 64 a (h .loads-fit);
         imports-listed = short imports 64 b (h .imports-fit);
@@ -50,8 +51,8 @@ module _ (metered distributor : ℤ) (loads imports generation : List ℕ) (area
 
   -- lists
   pub all-listed : AllListed loads imports generation areaParts contracts tranches bytes
-      → loadRefusal metered distributor loads imports generation areas areaParts contracts tranches bytes ≡ refusal (givenBytes metered distributor loads imports generation areas areaParts contracts tranches) (bytes / 8)
-  unfolding loadRefusal
+      → loadBytesRefusal metered distributor loads imports generation areas areaParts contracts tranches bytes ≡ loadRefusal (loadBytesGiven metered distributor loads imports generation areas areaParts contracts tranches) (bytes / 8)
+  unfolding loadBytesRefusal
   all-listed l =
       simp (
         and-true (whole (length loads)) _ (l .loads-listed) .0,

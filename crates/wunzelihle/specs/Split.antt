@@ -6,15 +6,15 @@ use lib.IntN.{ℤ}
 use lib.ListN.{length}
 use Rattle.ints.specs.Refusal.{unless, lent}
 use Rattle.numbers.specs.Bytes.{numbers, encoded}
-use Rattle.split.specs.Split.{refusal, parts}
+use Rattle.split.specs.Split.{splitRefusal, parts}
 
 -- "a list's slice that is no multiple of eight gets refusal 1, in the place of a list of the wrong length": `bytes` is the length of the slice lent for the parts
-unfoldable pub splitRefusal : ℤ → List ℕ → ℕ → ℕ
-splitRefusal amount shares bytes =
+unfoldable pub splitBytesRefusal : ℤ → List ℕ → ℕ → ℕ
+splitBytesRefusal amount shares bytes =
     unless (eqb (length shares % 8) 0) 1
     (unless (eqb (bytes % 8) 0) 1
-    (refusal amount (numbers shares) (bytes / 8)))
+    (splitRefusal amount (numbers shares) (bytes / 8)))
 
 -- what the slice then holds
-abbrev pub splitOutcome : ℤ → List ℕ → List ℕ → List ℕ
-splitOutcome amount shares old = lent (splitRefusal amount shares (length old)) (encoded (parts amount (numbers shares))) old
+abbrev pub splitBytesOutcome : ℤ → List ℕ → List ℕ → List ℕ
+splitBytesOutcome amount shares old = lent (splitBytesRefusal amount shares (length old)) (encoded (parts amount (numbers shares))) old

@@ -1,17 +1,20 @@
-// What the C server calls. Lists cross in bytes, eight a number; the work is done in the crates below.
+// What the C server calls: each answers its refusal, or 0. Lists cross in bytes, eight a number; the work is done in the crates below.
 ghost use mathlib.Core.Path.{_≡_};
+ghost use mathlib.Core.List.{[], _∷_};
 ghost use lib.ListN.{length};
 ghost use Rattle.ints.specs.Refusal.{lent};
 ghost use Rattle.numbers.specs.Bytes.{encoded};
-ghost use Rattle.hour.specs.Charges.{congestionCharges, lossCharges, credits, nets};
-ghost use Rattle.delivering.specs.Hour.{settleRefusal};
-ghost use Rattle.wunzelihle.specs.Split.{splitRefusal, splitOutcome};
-ghost use Rattle.wunzelihle.specs.Load.{loadRefusal, loadOutcome};
+ghost use Rattle.exercise.specs.File.{hourOf};
+ghost use Rattle.exercise.specs.Order.{inBytes, hourRefusal};
+ghost use Rattle.hour.specs.Charges.{congestionCharges, lossCharges};
+ghost use Rattle.hour.specs.Surplus.{credits, nets};
+ghost use Rattle.wunzelihle.specs.Split.{splitBytesRefusal, splitBytesOutcome};
+ghost use Rattle.wunzelihle.specs.Load.{loadBytesRefusal, loadBytesOutcome};
 
 #[no_mangle]
 pub extern "C" fn wz_split(amount: i64, shares: &[u8], parts: &mut [u8]) -> u32
-    ensures { λ r. ⌜ r ≡ splitRefusal amount (now (shares .entry)) (length (now (parts .entry))) ⌝ }
-    ensures { λ _. ⌜ now (parts .exit) ≡ splitOutcome amount (now (shares .entry)) (now (parts .entry)) ⌝ }
+    ensures { λ r. ⌜ r ≡ splitBytesRefusal amount (now (shares .entry)) (length (now (parts .entry))) ⌝ }
+    ensures { λ _. ⌜ now (parts .exit) ≡ splitBytesOutcome amount (now (shares .entry)) (now (parts .entry)) ⌝ }
 {
     if shares.len() % 8 != 0 {
         return 1;
@@ -29,7 +32,7 @@ pub extern "C" fn wz_split(amount: i64, shares: &[u8], parts: &mut [u8]) -> u32
     let mut given = [0i64; 64];
     numbers::read_all(shares, &mut given[..n]);
     let mut made = [0i64; 64];
-    let refused = splitting::split(amount, &given[..n], &mut made[..n]);
+    let refused = split_amount::split(amount, &given[..n], &mut made[..n]);
     if refused != 0 {
         return refused;
     }
@@ -45,13 +48,13 @@ pub extern "C" fn wz_assign_load(
     imports: &[u8],
     generation: &[u8],
     areas: i64,
-    millionths: &[u8],
+    area_parts: &[u8],
     contracts: &[u8],
     tranches: &[u8],
     out: &mut [u8],
 ) -> u32
-    ensures { λ r. ⌜ r ≡ loadRefusal metered distributor (now (loads .entry)) (now (imports .entry)) (now (generation .entry)) areas (now (millionths .entry)) (now (contracts .entry)) (now (tranches .entry)) (length (now (out .entry))) ⌝ }
-    ensures { λ _. ⌜ now (out .exit) ≡ loadOutcome metered distributor (now (loads .entry)) (now (imports .entry)) (now (generation .entry)) areas (now (millionths .entry)) (now (contracts .entry)) (now (tranches .entry)) (now (out .entry)) ⌝ }
+    ensures { λ r. ⌜ r ≡ loadBytesRefusal metered distributor (now (loads .entry)) (now (imports .entry)) (now (generation .entry)) areas (now («area_parts» .entry)) (now (contracts .entry)) (now (tranches .entry)) (length (now (out .entry))) ⌝ }
+    ensures { λ _. ⌜ now (out .exit) ≡ loadBytesOutcome metered distributor (now (loads .entry)) (now (imports .entry)) (now (generation .entry)) areas (now («area_parts» .entry)) (now (contracts .entry)) (now (tranches .entry)) (now (out .entry)) ⌝ }
 {
     if !numbers::is_list(loads.len(), 64) {
         return 1;
@@ -62,7 +65,7 @@ pub extern "C" fn wz_assign_load(
     if !numbers::is_list(generation.len(), 64) {
         return 1;
     }
-    if !numbers::is_list(millionths.len(), 1024) {
+    if !numbers::is_list(area_parts.len(), 1024) {
         return 1;
     }
     if !numbers::is_list(contracts.len(), 768) {
@@ -74,14 +77,14 @@ pub extern "C" fn wz_assign_load(
     if !numbers::is_list(out.len(), 4096) {
         return 1;
     }
-    crossing::assign_listed(
+    load_bytes::assign_listed(
         metered,
         distributor,
         loads,
         imports,
         generation,
         areas,
-        millionths,
+        area_parts,
         contracts,
         tranches,
         out,
@@ -96,21 +99,21 @@ pub extern "C" fn wz_settle_hour(
     credit: &mut [u8],
     net: &mut [u8],
 ) -> u32
-    ensures { λ r. ⌜ r ≡ settleRefusal (now (file .entry)) (length (now (congestion .entry))) (length (now (loss .entry))) (length (now (credit .entry))) (length (now (net .entry))) ⌝ }
-    ensures { λ r. ⌜ now (congestion .exit) ≡ lent r (encoded (congestionCharges (now (file .entry)))) (now (congestion .entry)) ⌝ }
-    ensures { λ r. ⌜ now (loss .exit) ≡ lent r (encoded (lossCharges (now (file .entry)))) (now (loss .entry)) ⌝ }
-    ensures { λ r. ⌜ now (credit .exit) ≡ lent r (encoded (credits (now (file .entry)))) (now (credit .entry)) ⌝ }
-    ensures { λ r. ⌜ now (net .exit) ≡ lent r (encoded (nets (now (file .entry)))) (now (net .entry)) ⌝ }
+    ensures { λ r. ⌜ r ≡ hourRefusal inBytes (now (file .entry)) (length (now (congestion .entry)) ∷ length (now (loss .entry)) ∷ length (now (credit .entry)) ∷ length (now (net .entry)) ∷ []) ⌝ }
+    ensures { λ r. ⌜ now (congestion .exit) ≡ lent r (encoded (congestionCharges (hourOf (now (file .entry))))) (now (congestion .entry)) ⌝ }
+    ensures { λ r. ⌜ now (loss .exit) ≡ lent r (encoded (lossCharges (hourOf (now (file .entry))))) (now (loss .entry)) ⌝ }
+    ensures { λ r. ⌜ now (credit .exit) ≡ lent r (encoded (credits (hourOf (now (file .entry))))) (now (credit .entry)) ⌝ }
+    ensures { λ r. ⌜ now (net .exit) ≡ lent r (encoded (nets (hourOf (now (file .entry))))) (now (net .entry)) ⌝ }
 {
     let mut congestion_cents = [0i64; 64];
     let mut loss_cents = [0i64; 64];
     let mut credit_cents = [0i64; 64];
     let mut net_cents = [0i64; 64];
-    let c = delivering::hourly_count(congestion.len());
-    let l = delivering::hourly_count(loss.len());
-    let k = delivering::hourly_count(credit.len());
-    let n = delivering::hourly_count(net.len());
-    delivering::settle_into(
+    let c = hour_bytes::hourly_count(congestion.len());
+    let l = hour_bytes::hourly_count(loss.len());
+    let k = hour_bytes::hourly_count(credit.len());
+    let n = hour_bytes::hourly_count(net.len());
+    hour_bytes::settle_into(
         file,
         congestion,
         loss,

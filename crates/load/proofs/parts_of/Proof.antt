@@ -28,7 +28,7 @@ part-result-end c = search needs
 returns : tie.Need-returns
 returns c = let s = c .before in let k = s .args .a * s .args .n in
     let e : k + s .args .n - k ≡ s .args .n = omega arith in
-    (ap (λ (m : ℕ). take m (drop k (s .args .millionths .now))) e, (refl, refl))
+    (ap (λ (m : ℕ). take m (drop k (s .args .area-parts .now))) e, (refl, refl))
 
 pub parts-of-spec : {M : Type 1} → statement M
 parts-of-spec =

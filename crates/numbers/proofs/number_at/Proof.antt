@@ -8,17 +8,17 @@ use Rattle.numbers.proofs.Words.{word-is}
 use Rattle.numbers.proofs.number_at.Statement.{statement}
 use Rattle.numbers.proofs.number_at.Tie as tie
 
-mul-word-at : tie.Need-mul-word-at
-mul-word-at c = search needs
+mul-word-from : tie.Need-mul-word-from
+mul-word-from c = search needs
 
-word-at-requires : tie.Need-word-at-requires
-word-at-requires c κs = search needs
+word-from-requires : tie.Need-word-from-requires
+word-from-requires c κs = search needs
 
-from-bits-requires : tie.Need-from-bits-requires
-from-bits-requires c κs = search needs
+from-word-requires : tie.Need-from-word-requires
+from-word-requires c κs = search needs
 
 returns : tie.Need-returns
-returns c = let s = c .before .before .before in toZ-ofZ (sfits-of (c .from-bits .ok)) ∙ (c .from-bits .ensures ∙ ap (twos 64) (c .before .word-at .ensures ∙ word-is (s .args .s .now) (8 * s .args .i) (s .pre)))
+returns c = let s = c .before .before .before in toZ-ofZ (sfits-of (c .from-word .ok)) ∙ (c .from-word .ensures ∙ ap (twos 64) (c .before .word-from .ensures ∙ word-is (s .args .s .now) (8 * s .args .i) (s .pre)))
 
 pub number-at-spec : {M : Type 1} → statement M
-number-at-spec = tie.close (tie.spec mul-word-at word-at-requires from-bits-requires returns)
+number-at-spec = tie.close (tie.spec mul-word-from word-from-requires from-word-requires returns)

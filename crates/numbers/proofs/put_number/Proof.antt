@@ -26,8 +26,8 @@ part-put-word-start c = search needs
 part-put-word-end : tie.Need-part-put-word-end
 part-put-word-end c = search needs
 
-to-bits-requires : tie.Need-to-bits-requires
-to-bits-requires c κs = search needs
+to-word-requires : tie.Need-to-word-requires
+to-word-requires c κs = search needs
 
 put-word-requires : tie.Need-put-word-requires
 put-word-requires c κs = search needs
@@ -40,7 +40,7 @@ returns c = let b = c .before .before .before .before .before .before in
     let xs = b .args .out .now in
     let k = 8 * b .args .i in
     ap (λ (l : List ℕ). take k xs ++ (c .before .before .put-word .last .0 ++ l)) (post-is k (k + 8) xs (omega arith))
-    ∙ ap (λ (l : List ℕ). take k xs ++ (l ++ drop (k + 8) xs)) (c .before .before .put-word .ensures ∙ ap (bytesOf 8) (c .before .before .before .to-bits .ensures) ∙ ap eight (toZ-ofZ (b .fits .z)))
+    ∙ ap (λ (l : List ℕ). take k xs ++ (l ++ drop (k + 8) xs)) (c .before .before .put-word .ensures ∙ ap (bytesOf 8) (c .before .before .before .to-word .ensures) ∙ ap eight (toZ-ofZ (b .fits .z)))
 
 pub put-number-spec : {M : Type 1} → statement M
 put-number-spec =
@@ -51,7 +51,7 @@ put-number-spec =
     sub-put-word
     part-put-word-start
     part-put-word-end
-    to-bits-requires
+    to-word-requires
     put-word-requires
     same-length
     returns)

@@ -9,7 +9,8 @@ use mir.Val.{toZ, ofZ}
 use mir.Facts.{toZ-ofZ}
 use borrow.Author.Needs.{needs, sfits-of}
 use Rattle.ints.specs.Table.{_at_}
-use Rattle.numbers.specs.Bytes.{withNumber, encoded}
+use Rattle.numbers.specs.Bytes.{encoded}
+use Rattle.numbers.specs.Inside.{withNumber}
 use Rattle.numbers.proofs.Laws.{fill-none, fill-next, fill-done}
 use Rattle.numbers.proofs.write_all.Statement.{statement}
 use Rattle.numbers.proofs.write_all.Tie as tie

@@ -4,25 +4,25 @@ use mathlib.Core.Bool.{Bool}
 use native.Mathlib.Omega.{arith}
 use lib.ListN.{length}
 use borrow.Author.Needs.{needs}
-use Rattle.text.specs.Decimal.{sign}
+use Rattle.text.specs.Decimal.{signText}
 use Rattle.text.proofs.Laws as laws
 use Rattle.text.proofs.put_sign.Statement.{statement}
 use Rattle.text.proofs.put_sign.Tie as tie
 
-put-requires : tie.Need-put-requires
-put-requires c κs = let s = c .before .before .before in
-    omega (arith, ap (λ (b : Bool). length (sign b)) (c .before .if1 .taken), s .pre)
+put-byte-requires : tie.Need-put-byte-requires
+put-byte-requires c κs = let s = c .before .before .before in
+    omega (arith, ap (λ (b : Bool). length (signText b)) (c .before .if1 .taken), s .pre)
 
 same-length : tie.Need-same-length
 same-length c = search needs
 
 returns : tie.Need-returns
 returns c = let b = c .before .before .before .before in
-    laws.told (c .before .before .put .ensures) (sym (ap sign (b .if1 .taken)))
+    laws.told (c .before .before .put-byte .ensures) (sym (ap signText (b .if1 .taken)))
 
 returns-2 : tie.Need-returns-2
 returns-2 c = let s = c .before .before in
-    laws.told (laws.nothing (s .args .text .now) (s .args .at)) (sym (ap sign (c .if1 .left)))
+    laws.told (laws.nothing (s .args .text .now) (s .args .at)) (sym (ap signText (c .if1 .left)))
 
 pub put-sign-spec : {M : Type 1} → statement M
-put-sign-spec = tie.close (tie.spec put-requires same-length returns returns-2)
+put-sign-spec = tie.close (tie.spec put-byte-requires same-length returns returns-2)

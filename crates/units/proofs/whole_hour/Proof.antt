@@ -2,7 +2,7 @@
 use Prim.Native.Nat.{ℕ, _≤_}
 use lib.Dec.{lit≤}
 use lib.IntN.{pos, _*ℤ_}
-use Rattle.ints.specs.Number.{Within}
+use Rattle.ints.specs.InsideRange.{Within}
 use Rattle.ints.proofs.Sizes.{w-mul, w-fits, w-read}
 use Rattle.units.proofs.whole_hour.Statement.{statement}
 use Rattle.units.proofs.whole_hour.Tie as tie

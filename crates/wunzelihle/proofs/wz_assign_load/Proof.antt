@@ -1,9 +1,9 @@
 -- `wunzelihle::wz_assign_load` meets its contract. Assumes nothing.
 use Rattle.wunzelihle.proofs.Loads.{not-listed, all-listed}
-use Rattle.wunzelihle.specs.Load.{loadRefusal}
-use Rattle.crossing.specs.Load.{givenBytes, AllListed}
-use Rattle.load.specs.Order.{refusal}
-use Rattle.load.specs.Load.{Given, assignment}
+use Rattle.wunzelihle.specs.Load.{loadBytesGiven, loadBytesRefusal}
+use Rattle.load_bytes.specs.Inside.{AllListed}
+use Rattle.load.specs.Order.{loadRefusal}
+use Rattle.load.specs.Load.{LoadGiven, assignment}
 use Rattle.numbers.specs.Bytes.{encoded}
 use Rattle.ints.proofs.Refusals.{refused}
 use Rattle.ints.proofs.Bools.{not-both}
@@ -21,20 +21,20 @@ use Rattle.wunzelihle.proofs.wz_assign_load.Statement.{statement}
 use Rattle.wunzelihle.proofs.wz_assign_load.Tie as tie
 
 abbrev answer : tie.Start → ℕ
-answer s = loadRefusal (s .args .metered) (s .args .distributor) (s .args .loads .now) (s .args .imports .now) (s .args .generation .now) (s .args .areas) (s .args .millionths .now) (s .args .contracts .now) (s .args .tranches .now) (length (s .args .out .now))
+answer s = loadBytesRefusal (s .args .metered) (s .args .distributor) (s .args .loads .now) (s .args .imports .now) (s .args .generation .now) (s .args .areas) (s .args .area-parts .now) (s .args .contracts .now) (s .args .tranches .now) (length (s .args .out .now))
 
-abbrev d : tie.Start → Given
-d s = givenBytes (s .args .metered) (s .args .distributor) (s .args .loads .now) (s .args .imports .now) (s .args .generation .now) (s .args .areas) (s .args .millionths .now) (s .args .contracts .now) (s .args .tranches .now)
+abbrev d : tie.Start → LoadGiven
+d s = loadBytesGiven (s .args .metered) (s .args .distributor) (s .args .loads .now) (s .args .imports .now) (s .args .generation .now) (s .args .areas) (s .args .area-parts .now) (s .args .contracts .now) (s .args .tranches .now)
 
 -- the slices are lists, and not too long
 abbrev Lists : tie.Start → Type 0
-Lists s = AllListed (s .args .loads .now) (s .args .imports .now) (s .args .generation .now) (s .args .millionths .now) (s .args .contracts .now) (s .args .tranches .now) (length (s .args .out .now))
+Lists s = AllListed (s .args .loads .now) (s .args .imports .now) (s .args .generation .now) (s .args .area-parts .now) (s .args .contracts .now) (s .args .tranches .now) (length (s .args .out .now))
 
 -- one of them is not
 ragged : (s : tie.Start) → (Lists s → ⊥) → (1 ≡ answer s) × (s .args .out .now ≡ lent (answer s) (encoded (assignment (d s))) (s .args .out .now))
 ragged s e =
     refused (answer s) (encoded (assignment (d s))) (s .args .out .now) 0
-    (sym (not-listed (s .args .metered) (s .args .distributor) (s .args .loads .now) (s .args .imports .now) (s .args .generation .now) (s .args .areas) (s .args .millionths .now) (s .args .contracts .now) (s .args .tranches .now) (length (s .args .out .now)) e))
+    (sym (not-listed (s .args .metered) (s .args .distributor) (s .args .loads .now) (s .args .imports .now) (s .args .generation .now) (s .args .areas) (s .args .area-parts .now) (s .args .contracts .now) (s .args .tranches .now) (length (s .args .out .now)) e))
 
 -- a test that fails, of a slice that is a list
 contrary : {r t : Bool} → r ≡ t → not r ≡ true → t ≡ true → ⊥
@@ -59,13 +59,13 @@ module _ (a : tie.After-assign-listed) where
   abbrev s : tie.Start
   s = start (a .before .before)
 
-  read : givenBytes (toZ w64 (ofZ w64 (s .args .metered))) (toZ w64 (ofZ w64 (s .args .distributor))) (s .args .loads .now) (s .args .imports .now) (s .args .generation .now) (toZ w64 (ofZ w64 (s .args .areas))) (s .args .millionths .now) (s .args .contracts .now) (s .args .tranches .now) ≡ d s
+  read : loadBytesGiven (toZ w64 (ofZ w64 (s .args .metered))) (toZ w64 (ofZ w64 (s .args .distributor))) (s .args .loads .now) (s .args .imports .now) (s .args .generation .now) (toZ w64 (ofZ w64 (s .args .areas))) (s .args .area-parts .now) (s .args .contracts .now) (s .args .tranches .now) ≡ d s
   read = simp (toZ-ofZ (s .fits .metered), toZ-ofZ (s .fits .distributor), toZ-ofZ (s .fits .areas))
 
   answered : a .assign-listed .result ≡ answer s
   answered =
-      a .assign-listed .ensures .0 ∙ ap (λ (g : Given). refusal g (length (s .args .out .now) / 8)) read
-      ∙ sym (all-listed (s .args .metered) (s .args .distributor) (s .args .loads .now) (s .args .imports .now) (s .args .generation .now) (s .args .areas) (s .args .millionths .now) (s .args .contracts .now) (s .args .tranches .now) (length (s .args .out .now)) (lists (a .before .before)))
+      a .assign-listed .ensures .0 ∙ ap (λ (g : LoadGiven). loadRefusal g (length (s .args .out .now) / 8)) read
+      ∙ sym (all-listed (s .args .metered) (s .args .distributor) (s .args .loads .now) (s .args .imports .now) (s .args .generation .now) (s .args .areas) (s .args .area-parts .now) (s .args .contracts .now) (s .args .tranches .now) (length (s .args .out .now)) (lists (a .before .before)))
 
 is-list-requires : tie.Need-is-list-requires
 is-list-requires c κs = search needs
@@ -117,7 +117,7 @@ same-length c = search needs
 
 returns-8 : tie.Need-returns-8
 returns-8 c = let a = c .before .before in
-    (answered a, a .assign-listed .ensures .1 ∙ ap₂ (λ (r : ℕ) (g : Given). lent r (encoded (assignment g)) (s a .args .out .now)) (answered a) (read a))
+    (answered a, a .assign-listed .ensures .1 ∙ ap₂ (λ (r : ℕ) (g : LoadGiven). lent r (encoded (assignment g)) (s a .args .out .now)) (answered a) (read a))
 
 pub wz-assign-load-spec : {M : Type 1} → statement M
 wz-assign-load-spec =

@@ -14,10 +14,10 @@ use borrow.Author.Tests.{eq-eqb, ne-eqb}
 use Rattle.ints.proofs.Refusals.{lent-result, kept, refused, done}
 use Rattle.numbers.specs.Bytes.{numbers, encoded}
 use Rattle.numbers.proofs.Laws.{length-numbers}
-use Rattle.split.specs.Split.{refusal, parts}
+use Rattle.split.specs.Split.{splitRefusal, parts}
 use Rattle.split.proofs.Accepted.{too-many, unequal}
 use Rattle.split.proofs.Laws.{length-parts}
-use Rattle.wunzelihle.specs.Split.{splitRefusal}
+use Rattle.wunzelihle.specs.Split.{splitBytesRefusal}
 use Rattle.wunzelihle.proofs.wz_split.Statement.{statement}
 use Rattle.wunzelihle.proofs.wz_split.Tie as tie
 
@@ -26,7 +26,7 @@ start c = c .before .before .before .before .before .before
 
 -- the answer and the result by the definition
 abbrev answer : tie.Start → ℕ
-answer s = splitRefusal (s .args .amount) (s .args .shares .now) (length (s .args .parts .now))
+answer s = splitBytesRefusal (s .args .amount) (s .args .shares .now) (length (s .args .parts .now))
 
 abbrev result : tie.Start → List ℕ
 result s = encoded (parts (s .args .amount) (numbers (s .args .shares .now)))
@@ -47,8 +47,8 @@ given-is : (c : tie.After-read-all) → take (count (c .before .before)) (c .rea
 given-is c = take-at (c .read-all .last .1 .0) (drop (count (c .before .before)) zeros) (count (c .before .before)) (length-read c) ∙ c .read-all .ensures
 
 -- both slices are whole numbers
-whole : (c : tie.Else2) → let s = c .before .before .before .before in answer s ≡ refusal (s .args .amount) (numbers (s .args .shares .now)) (length (s .args .parts .now) / 8)
-unfolding splitRefusal
+whole : (c : tie.Else2) → let s = c .before .before .before .before in answer s ≡ splitRefusal (s .args .amount) (numbers (s .args .shares .now)) (length (s .args .parts .now) / 8)
+unfolding splitBytesRefusal
 whole c = simp (eq-eqb _ _ (c .before .if1 .left), eq-eqb _ _ (c .if2 .left))
 
 -- what the split was given is what the definition speaks of
@@ -72,8 +72,8 @@ module _ (c : tie.After-split) where
   split-answer : c .split .result ≡ answer s
   split-answer =
       c .split .ensures .0
-      ∙ (ap₂ (λ (l : List ℤ) (n : ℕ). refusal passed l n) (given-is read) length-is
-      ∙ (ap (λ (z : ℤ). refusal z (numbers (s .args .shares .now)) (length (s .args .parts .now) / 8)) (toZ-ofZ (s .fits .amount)) ∙ sym (whole (counted .before .before))))
+      ∙ (ap₂ (λ (l : List ℤ) (n : ℕ). splitRefusal passed l n) (given-is read) length-is
+      ∙ (ap (λ (z : ℤ). splitRefusal z (numbers (s .args .shares .now)) (length (s .args .parts .now) / 8)) (toZ-ofZ (s .fits .amount)) ∙ sym (whole (counted .before .before))))
 
   -- what it made, where it refused nothing
   split-parts : c .split .result ≡ 0 → c .split .last .1 .1 .0 ≡ parts (s .args .amount) (numbers (s .args .shares .now))
@@ -92,20 +92,20 @@ module _ (c : tie.After-split) where
   length-written e = ap length (made-is e) ∙ (length-parts (s .args .amount) (numbers (s .args .shares .now)) ∙ length-numbers (s .args .shares .now))
 
 returns : tie.Need-returns
-unfolding splitRefusal
+unfolding splitBytesRefusal
 returns c = let s = c .before .before .before in refused (answer s) (result s) (s .args .parts .now) 0 (simp (ne-eqb _ _ (c .if1 .taken)))
 
 returns-2 : tie.Need-returns-2
-unfolding splitRefusal
+unfolding splitBytesRefusal
 returns-2 c = let s = c .before .before .before .before in refused (answer s) (result s) (s .args .parts .now) 0 (simp (eq-eqb _ _ (c .before .if1 .left), ne-eqb _ _ (c .if2 .taken)))
 
 returns-3 : tie.Need-returns-3
-unfolding splitRefusal
+unfolding splitBytesRefusal
 returns-3 c = let s = c .before .before .before .before .before in
     refused (answer s) (result s) (s .args .parts .now) 0 (sym (whole (c .before) ∙ too-many (s .args .amount) (numbers (s .args .shares .now)) (length (s .args .parts .now) / 8) (omega (arith, length-numbers (s .args .shares .now), c .if3 .taken))))
 
 returns-4 : tie.Need-returns-4
-unfolding splitRefusal
+unfolding splitBytesRefusal
 returns-4 c = let s = c .before .before .before .before .before .before in
     refused (answer s) (result s) (s .args .parts .now) 0 (sym (whole (c .before .before) ∙ unequal (s .args .amount) (numbers (s .args .shares .now)) (length (s .args .parts .now) / 8) (λ e. c .if4 .taken (e ∙ length-numbers (s .args .shares .now)))))
 

@@ -664,7 +664,8 @@ fn settled(case: &Case) -> u32 {
 }
 
 /// A way to be refused: its stage in the order, the number it gets when it
-/// stands alone, and how a case comes to it.
+/// stands alone, and how a case comes to it. None undoes another: a number that
+/// is wrong stays wrong, and a fault that needs prices or rows has its own.
 type Fault = (usize, u32, fn(&mut Case, &mut Random));
 
 const UNDER_FIVE: usize = 0;
@@ -699,17 +700,31 @@ const FAULTS: &[Fault] = &[
         // One more than there may be, and truly there.
         let last = case.file.transactions.last().unwrap().clone();
         case.file.transactions.resize(257, last);
+        // A count that was told wrongly is beyond its size, too.
+        if let Some(told) = &mut case.file.told_transactions {
+            *told = 258;
+        }
     }),
     (LENGTH, 9, |case, random| {
-        case.excess = random.pick(&[-1, 1, -1, 1, -6, 6, -7, 7, 256]);
+        // Not a row or two, which would make up for counts that are told wrongly.
+        case.excess = random.pick(&[-1, 1, -1, 1, -18, 18, -7, 7, 256]);
     }),
     (LENGTH, 9, |case, random| {
-        let rows = case.file.rows.len() as i64;
-        case.file.told_rows = Some(rows + random.pick(&[-1, 1]));
+        // One more or less than there are, unless the count is wrong already.
+        let rows = case.file.rows.len() as i64 + random.pick(&[-1, 1]);
+        case.file.told_rows.get_or_insert(rows);
     }),
     (LENGTH, 9, |case, random| {
+        // Two, as one would make up for a row; and of too many two more.
         let transactions = case.file.transactions.len() as i64;
-        case.file.told_transactions = Some(transactions + random.pick(&[-1, 1]));
+        let more = if transactions > 256 {
+            2
+        } else {
+            random.pick(&[-2, 2])
+        };
+        case.file
+            .told_transactions
+            .get_or_insert(transactions + more);
     }),
     (LENGTH, 9, |case, _| {
         // The header alone.
@@ -798,8 +813,8 @@ const FAULTS: &[Fault] = &[
     }),
     (LIMITS, 10, |case, random| {
         let kind = 4 + random.index(2);
-        case.file.loss.fill(0);
-        case.file.loss[0] = MOST_PRICE;
+        without_loss(case);
+        price_loss(case, 0, MOST_PRICE);
         for _ in 0..20 {
             case.file.row(DAY_AHEAD, kind, 0, 0, 0, MOST_KW);
         }
@@ -810,7 +825,7 @@ const FAULTS: &[Fault] = &[
             case.file.row(REAL_TIME, LOAD, 0, participant, 0, MOST_KW);
         }
         case.file.row(REAL_TIME, EXPORT, 0, participant, 0, 1);
-        case.file.loss.fill(0);
+        without_loss(case);
     }),
     (NO_SHARES, 7, |case, random| {
         let kind = 4 + random.index(2);
@@ -819,13 +834,29 @@ const FAULTS: &[Fault] = &[
                 row.kind += 1;
             }
         }
-        case.file.loss.fill(0);
-        case.file.loss[0] = random.pick(&[1, -1]);
+        without_loss(case);
+        price_loss(case, 1, random.pick(&[1, -1]));
         for _ in 0..20 {
-            case.file.row(DAY_AHEAD, kind, 0, 0, 0, MOST_KW);
+            case.file.row(DAY_AHEAD, kind, 0, 0, 1, MOST_KW);
         }
     }),
 ];
+
+/// Takes the loss prices to 0, but for those that are a fault's own.
+fn without_loss(case: &mut Case) {
+    case.file.loss.iter_mut().for_each(|price| {
+        if price.abs() < MOST_PRICE {
+            *price = 0;
+        }
+    });
+}
+
+/// Gives a location a loss price day-ahead, unless the one it has is beyond.
+fn price_loss(case: &mut Case, location: usize, price: i64) {
+    if case.file.loss[location].abs() <= MOST_PRICE {
+        case.file.loss[location] = price;
+    }
+}
 
 fn faults_of(stage: usize) -> Vec<&'static Fault> {
     FAULTS.iter().filter(|fault| fault.0 == stage).collect()
@@ -908,25 +939,33 @@ mod tests {
         }
     }
 
-    /// Of two faults the one of the earlier stage decides.
+    /// The two faults that no hour can have both: a share above its limit, and
+    /// no shares at all.
+    const APART: [usize; 2] = [FAULTS.len() - 2, FAULTS.len() - 1];
+
+    /// Of two faults the one of the earlier stage decides, whichever came first.
     #[test]
     fn pairs_get_the_earlier_number() {
         let mut random = Random::new(2);
-        let mut odd = 0;
-        let pairs = FAULTS.len() * (FAULTS.len() - 1);
-        for n in 0..pairs {
-            let (first, second) = pair(n, FAULTS.len());
-            let (first, second) = (&FAULTS[first], &FAULTS[second]);
+        for n in 0..10 * FAULTS.len() * (FAULTS.len() - 1) {
+            let (at, other) = pair(n, FAULTS.len());
+            if APART.contains(&at) && APART.contains(&other) {
+                continue;
+            }
+            let (first, second) = (&FAULTS[at], &FAULTS[other]);
             let number = settled(&spoilt(&[first, second], &mut random));
-            let expected = match first.0.cmp(&second.0) {
-                Ordering::Less => number == first.1,
-                Ordering::Greater => number == second.1,
-                Ordering::Equal => number == first.1 || number == second.1,
-            };
-            // A second fault may undo the first.
-            odd += !expected as usize;
+            match first.0.cmp(&second.0) {
+                Ordering::Less => assert_eq!(number, first.1, "faults {at}, {other}"),
+                Ordering::Greater => assert_eq!(number, second.1, "faults {at}, {other}"),
+                // In one stage it's the earlier row or transaction that decides.
+                Ordering::Equal => {
+                    assert!(
+                        [first.1, second.1].contains(&number),
+                        "faults {at}, {other}: {number}"
+                    )
+                }
+            }
         }
-        assert!(odd * 20 < pairs, "{odd} of {pairs}");
     }
 
     #[test]

@@ -1,3 +1,0 @@
-pub mod Paid
-pub mod Theorems
-pub mod Unique

@@ -1,2 +1,0 @@
-pub mod Hour
-pub mod Cases

@@ -1,0 +1,66 @@
+-- What one position, and one transaction, adds to its participant's charge: kW times a weight that is computed once a location. The fast form of the charges, which
+-- proofs/Theorem.antt joins to the tariff's. Assumes nothing.
+use mathlib.Core.Bool.{Bool}
+use mathlib.Core.List.{List}
+use Prim.Native.Nat.{ℕ, _<_}
+use lib.Dec.{eqb}
+use lib.IntN.{ℤ, pos, negsuc, _-ℤ_, _*ℤ_}
+use Rattle.ints.specs.InsideEvery.{keep, owed}
+use Rattle.ints.specs.Refusal.{pick}
+use Rattle.ints.specs.Sum.{sumTo}
+use Rattle.ints.specs.Table.{_at_}
+use Rattle.hour.specs.Charges.{P, C}
+use Rattle.hour.specs.Hour.{dayAhead, Prices, intervalOf, Position}
+use Rattle.hour.specs.InsideTested.{Timed}
+use Rattle.hour.specs.declared.Row.{Row}
+use Rattle.hour.specs.declared.Transaction.{Transaction}
+
+-- 1 for what is withdrawn, -1 for what is injected
+abbrev pub sign : Bool → ℤ
+sign withdrawal = pick withdrawal (pos 1) (negsuc 0)
+
+-- a day-ahead kW at l is priced for the whole hour and taken back in each of the 12 intervals
+unfoldable pub aheadWeight : Prices → ℕ → ℤ
+aheadWeight prices l = pos 12 *ℤ P prices l -ℤ sumTo (λ k. C prices k l) 12
+
+-- what a kW counts at l, by its market and interval
+abbrev pub weight : Prices → ℕ → ℕ → ℕ → ℤ
+weight prices market interval l = pick (eqb market dayAhead) (aheadWeight prices l) (C prices interval l)
+
+-- the same from a table of day-ahead weights and the real-time prices
+abbrev pub weightIn : List ℤ → List ℤ → ℕ → ℕ → ℕ → ℕ → ℤ
+weightIn weights real locations market interval l = pick (eqb market dayAhead) (weights at l) (intervalOf real locations interval at l)
+
+unfoldable pub positionPart : Prices → Position → ℤ
+positionPart prices x = sign (x .withdrawal) *ℤ pos (x .kw) *ℤ weight prices (x .market) (x .interval) (x .location)
+
+unfoldable pub transactionPart : Prices → Transaction → ℤ
+transactionPart prices t =
+    pos (t .kw .0) *ℤ (weight prices (t .market) (t .interval) (t .sink) -ℤ weight prices (t .market) (t .interval) (t .source))
+
+-- the parts of p's own positions, and transactions
+abbrev pub positionParts : Prices → List Position → ℕ → ℤ
+positionParts prices xs p = owed (λ x. x .participant) (positionPart prices) xs p
+
+abbrev pub transactionParts : Prices → List Transaction → ℕ → ℤ
+transactionParts prices transactions p = owed (λ t. t .participant) (transactionPart prices) transactions p
+
+-- what the theorem asks of a position, and of a transaction; an hour's have been tested
+pub record PositionPlaced (locations : ℕ) (x : Position) : Type 0 where
+  pub timed : Timed (x .market) (x .interval)
+  pub location : x .location < locations
+
+pub record TransactionPlaced (locations : ℕ) (t : Transaction) : Type 0 where
+  pub timed : Timed (t .market) (t .interval)
+  pub source : t .source < locations
+  pub sink : t .sink < locations
+
+-- p's own
+abbrev pub ownPositions : ℕ → List Position → List Position
+ownPositions p xs = keep (λ x. eqb (x .participant) p) xs
+
+abbrev pub ownRows : ℕ → List Row → List Row
+ownRows p rows = keep (λ r. eqb (r .participant) p) rows
+
+abbrev pub ownTransactions : ℕ → List Transaction → List Transaction
+ownTransactions p transactions = keep (λ t. eqb (t .participant) p) transactions

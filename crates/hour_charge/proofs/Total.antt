@@ -1,0 +1,71 @@
+-- What was added, row by row and transaction by transaction, is the tariff's charge. Assumes nothing.
+use mathlib.Core.Path.{_≡_, ap, ap₂, _∙_}
+use mathlib.Core.List.{List, map}
+use Prim.Native.Nat.{ℕ, _<_}
+use lib.Dec.{eqb}
+use lib.IntN.{ℤ, pos, _+ℤ_, _-ℤ_, _*ℤ_}
+use Rattle.ints.specs.InsideEvery.{Every, owed}
+use Rattle.ints.specs.Refusal.{pick}
+use Rattle.ints.specs.Table.{_at_, tab}
+use Rattle.ints.proofs.Adding.{owed-ext}
+use Rattle.ints.proofs.Tables.{getD-tab}
+use Rattle.ints.proofs.Turns.{then-none}
+use Rattle.exercise.specs.File.{rowsIn, transactionsIn}
+use Rattle.hour.specs.InsideTested.{RowTested, TransactionTested}
+use Rattle.hour.specs.declared.Row.{Row}
+use Rattle.hour.specs.declared.Transaction.{Transaction}
+use Rattle.exercise.proofs.Tested.{rows-tested, transactions-tested}
+use Rattle.exercise.specs.declared.Header.{Header}
+use Rattle.hour.specs.InsideParts.{sign, aheadWeight, weight, weightIn, positionPart, transactionPart}
+use Rattle.hour.specs.Hour.{withdraws, Prices, priceList, intervalOf, positionOf}
+use Rattle.hour.specs.Charges.{charge}
+use Rattle.hour_totals.specs.Inside.{partIn, pathPartIn}
+use Rattle.hour_charge.specs.Inside.{BothAdded}
+use Rattle.hour.specs.InsideTotals.{Charged}
+use Rattle.hour.proofs.Theorems.{parts-charge}
+use Rattle.exercise.specs.Inside.{rowsInRefusal, transactionsInRefusal, bothRefusal}
+
+module _ (h : Header) (rows transactions : List ℕ) (none : bothRefusal h rows transactions ≡ 0) where
+  accepted : (rowsInRefusal (h .participants) (h .locations) rows (h .rows) ≡ 0) × (transactionsInRefusal (h .participants) (h .locations) transactions (h .transactions) ≡ 0)
+  accepted = then-none (rowsInRefusal (h .participants) (h .locations) rows (h .rows)) (transactionsInRefusal (h .participants) (h .locations) transactions (h .transactions)) none
+
+  pub rows-passed : Every (RowTested (h .participants) (h .locations)) (rowsIn rows (h .rows))
+  rows-passed = rows-tested (h .participants) (h .locations) rows (h .rows) (accepted .0)
+
+  pub transactions-passed : Every (TransactionTested (h .participants) (h .locations)) (transactionsIn transactions (h .transactions))
+  transactions-passed = transactions-tested (h .participants) (h .locations) transactions (h .transactions) (accepted .1)
+
+module _ (h : Header) (ahead later weights real : List ℤ) (e : weights ≡ tab (aheadWeight (priceList (h .locations) ahead later)) (h .locations)) (f : real ≡ later) where
+  abbrev prices : Prices
+  prices = priceList (h .locations) ahead later
+
+  -- with the weights of the price list, what is added is the part
+  weight-is : (market interval l : ℕ) → l < h .locations → weightIn weights real (h .locations) market interval l ≡ weight prices market interval l
+  weight-is market interval l m =
+      ap₂ (λ (w c : ℤ). pick (eqb market 0) w c)
+      (ap (λ (xs : List ℤ). xs at l) e ∙ getD-tab (aheadWeight prices) (pos 0) (h .locations) l m)
+      (ap (λ (xs : List ℤ). intervalOf xs (h .locations) interval at l) f)
+
+  part-is : (r : Row) → RowTested (h .participants) (h .locations) r → partIn weights real (h .locations) r ≡ positionPart prices (positionOf r)
+  unfolding positionPart
+  part-is r t = ap (λ (w : ℤ). sign (withdraws (r .kind)) *ℤ pos (r .kw .0) *ℤ w) (weight-is (r .market) (r .interval) (r .location) (t .location))
+
+  path-part-is : (t : Transaction) → TransactionTested (h .participants) (h .locations) t → pathPartIn weights real (h .locations) t ≡ transactionPart prices t
+  unfolding transactionPart
+  path-part-is t q =
+      ap (λ (w : ℤ). pos (t .kw .0) *ℤ w)
+      (ap₂ _-ℤ_ (weight-is (t .market) (t .interval) (t .sink) (q .sink)) (weight-is (t .market) (t .interval) (t .source) (q .source)))
+
+  -- so they add up to the charge
+  module _ (rows transactions : List ℕ) (none : bothRefusal h rows transactions ≡ 0) where
+    pub sums-to : (p : ℕ) → owed (λ r. r .participant) (partIn weights real (h .locations)) (rowsIn rows (h .rows)) p +ℤ owed (λ t. t .participant) (pathPartIn weights real (h .locations)) (transactionsIn transactions (h .transactions)) p
+        ≡ charge prices (map positionOf (rowsIn rows (h .rows))) (transactionsIn transactions (h .transactions)) p
+    sums-to p =
+        ap₂ _+ℤ_
+        (owed-ext (λ r. r .participant) (partIn weights real (h .locations)) (λ r. positionPart prices (positionOf r)) part-is (rowsIn rows (h .rows)) (rows-passed h rows transactions none) p)
+        (owed-ext (λ t. t .participant) (pathPartIn weights real (h .locations)) (transactionPart prices) path-part-is (transactionsIn transactions (h .transactions)) (transactions-passed h rows transactions none) p)
+        ∙ parts-charge (h .participants) prices (rowsIn rows (h .rows)) (transactionsIn transactions (h .transactions)) p
+        (rows-passed h rows transactions none) (transactions-passed h rows transactions none)
+
+    pub charged : {totals : List ℤ} → BothAdded h rows transactions weights real totals → Charged prices (rowsIn rows (h .rows)) (transactionsIn transactions (h .transactions)) totals
+    charged added = record { each = λ p. added .each p ∙ sums-to p }

@@ -1,0 +1,80 @@
+-- `hour_charge::charge_both` meets its contract. Assumes nothing.
+use mathlib.Core.Path.{_∙_}
+use borrow.Author.Needs.{needs}
+use Rattle.ints.proofs.Turns.{then-ends, then-follows}
+use Rattle.hour_charge.proofs.Added.{shared, both-added}
+use Rattle.hour_charge.proofs.charge_both.Statement.{statement}
+use Rattle.hour_charge.proofs.charge_both.Tie as tie
+
+abbrev given : tie.After-charge-rows → tie.Start
+given r = r .before .before .before .before .before .before
+
+charge-rows-requires : tie.Need-charge-rows-requires
+charge-rows-requires c κs = search needs
+
+same-length : tie.Need-same-length
+same-length c = search needs
+
+same-length-2 : tie.Need-same-length-2
+same-length-2 c = search needs
+
+same-length-3 : tie.Need-same-length-3
+same-length-3 c = search needs
+
+returns : tie.Need-returns
+returns c = let r = c .before .before .before .before in
+    (then-ends _ _ _ (c .if1 .taken) (r .charge-rows .ensures .0), (λ z. absurd (c .if1 .taken z), (λ z. absurd (c .if1 .taken z), λ z. absurd (c .if1 .taken z))))
+
+charge-transactions-requires : tie.Need-charge-transactions-requires
+charge-transactions-requires c κs = let l = c .before .before in
+    let r = l .before .before .before .before in
+    let s = given r in (
+      (s .pre .0 .0, s .pre .0 .2, s .pre .0 .4),
+      (
+        s .pre .1 .0,
+        (
+          record { long = r .charge-rows .kept .1 .1 .1 .1 .1 .1 .1 .1 .0 ∙ s .pre .1 .1 .0 .long; range = r .charge-rows .ensures .1 .0 (l .if1 .left) .1 },
+          record { long = r .charge-rows .kept .1 .1 .1 .1 .1 .1 .1 .1 .1 .0 ∙ s .pre .1 .1 .1 .long; range = r .charge-rows .ensures .1 .1 .0 (l .if1 .left) .1 },
+        ),
+      ),
+    )
+
+same-length-4 : tie.Need-same-length-4
+same-length-4 c = search needs
+
+same-length-5 : tie.Need-same-length-5
+same-length-5 c = search needs
+
+same-length-6 : tie.Need-same-length-6
+same-length-6 c = search needs
+
+returns-2 : tie.Need-returns-2
+returns-2 c = let t = c .before .before in
+    let l = t .before .before .before in
+    let r = l .before .before .before .before in
+    let s = given r in
+    let m = r .charge-rows .ensures .1 in (
+      t .charge-transactions .ensures .0 ∙ then-follows _ _ _ (l .if1 .left) (r .charge-rows .ensures .0),
+      (
+        λ z. both-added (s .args .header) _ _ _ _ (s .pre .1 .1 .0) (m .0 (l .if1 .left) .0) (t .charge-transactions .ensures .1 .0 z),
+        (
+          λ z. both-added (s .args .header) _ _ _ _ (s .pre .1 .1 .1) (m .1 .0 (l .if1 .left) .0) (t .charge-transactions .ensures .1 .1 z),
+          λ _. shared _ (s .args .header .rows) (s .pre .1 .1 .2) (m .1 .1 (l .if1 .left)),
+        ),
+      ),
+    )
+
+pub charge-both-spec : {M : Type 1} → statement M
+charge-both-spec =
+    tie.close
+    (tie.spec
+    charge-rows-requires
+    same-length
+    same-length-2
+    same-length-3
+    returns
+    charge-transactions-requires
+    same-length-4
+    same-length-5
+    same-length-6
+    returns-2)

@@ -1,0 +1,60 @@
+-- What the functions that charge an hour hand to one another. Assumes nothing.
+use mathlib.Core.Path.{_≡_}
+use mathlib.Core.List.{List}
+use Prim.Native.Nat.{ℕ, _*_, _-_, _≤_}
+use lib.IntN.{ℤ, _+ℤ_}
+use lib.ListN.{length, take, drop}
+use Rattle.ints.specs.InsideEvery.{Added, owed}
+use Rattle.ints.specs.Table.{_at_}
+use Rattle.exercise.specs.File.{rowsIn, transactionsIn, priceCount, pricesFrom}
+use Rattle.hour.specs.declared.Row.{Row}
+use Rattle.hour.specs.declared.Transaction.{Transaction}
+use Rattle.exercise.specs.declared.Header.{Header}
+use Rattle.hour.specs.Hour.{Prices, priceList}
+use Rattle.hour.specs.Charges.{charge}
+use Rattle.hour.specs.InsideTotals.{Natural}
+use Rattle.hour_totals.specs.Inside.{partIn, pathPartIn}
+use Rattle.hour.specs.Surplus.{shareKw}
+
+-- ---- every participant's total with what its rows, or transactions, add
+
+abbrev pub RowsAdded : List Row → ℕ → List ℤ → List ℤ → List ℤ → List ℤ → Type 0
+RowsAdded rows locations weights real before after = Added (λ r. r .participant) (partIn weights real locations) rows before after
+
+abbrev pub SharesAdded : List Row → List ℤ → List ℤ → Type 0
+SharesAdded rows before after = Added (λ r. r .participant) shareKw rows before after
+
+abbrev pub TransactionsAdded : List Transaction → ℕ → List ℤ → List ℤ → List ℤ → List ℤ → Type 0
+TransactionsAdded transactions locations weights real before after = Added (λ t. t .participant) (pathPartIn weights real locations) transactions before after
+
+-- rows, then transactions: what they add to totals that were 0
+pub record BothAdded (h : Header) (rows transactions : List ℕ) (weights real totals : List ℤ) : Type 0 where
+  pub each : (p : ℕ) → totals at p
+      ≡ owed (λ r. r .participant) (partIn weights real (h .locations)) (rowsIn rows (h .rows)) p
+      +ℤ owed (λ t. t .participant) (pathPartIn weights real (h .locations)) (transactionsIn transactions (h .transactions)) p
+
+-- ---- a table of all prices of so many locations: the two price lists
+
+abbrev pub congestionCut : ℕ → List ℤ → Prices
+congestionCut n table = priceList n (take (n - 0) (drop 0 table)) (take (13 * n - n) (drop n table))
+
+abbrev pub lossCut : ℕ → List ℤ → Prices
+lossCut n table = priceList n (take (14 * n - 13 * n) (drop (13 * n) table)) (take (26 * n - 14 * n) (drop (14 * n) table))
+
+-- ---- the parts of a file
+
+pub record Stretches (h : Header) (prices rows transactions : List ℕ) : Type 0 where
+  pub participants : h .participants ≤ 64
+  pub locations : h .locations ≤ 64
+  pub few-rows : h .rows ≤ 2048
+  pub few-transactions : h .transactions ≤ 256
+  pub prices-whole : 3 * priceCount h ≤ length prices
+  pub rows-whole : 6 * h .rows ≤ length rows
+  pub transactions-whole : 6 * h .transactions ≤ length transactions
+
+-- the congestion and the loss prices
+abbrev pub congestionIn : Header → List ℕ → Prices
+congestionIn h prices = priceList (h .locations) (pricesFrom prices 0 (h .locations)) (pricesFrom prices (h .locations) (12 * h .locations))
+
+abbrev pub lossIn : Header → List ℕ → Prices
+lossIn h prices = priceList (h .locations) (pricesFrom prices (13 * h .locations) (h .locations)) (pricesFrom prices (14 * h .locations) (12 * h .locations))

@@ -1,0 +1,2 @@
+pub mod Markets
+pub mod Unique

@@ -1,0 +1,13 @@
+-- Each public contract allows one result: two that it allows at the same arguments are equal. Assumes nothing.
+-- `F.Post` is the `ensures` of F, over lifetimes, arguments, result and arguments at exit.
+use mathlib.Core.Path.{_≡_}
+use Prim.Native.Nat.{ℕ}
+use Rattle.ints.proofs.Unique.{unique}
+use Rattle.hour_row_refusals.proofs.packed_row_refusal.Reads as packed-row-refusal
+use Rattle.hour_row_refusals.proofs.transaction_refusal.Reads as transaction-refusal
+
+pub packed-row-refusal-unique : (a : _) (r s : ℕ) (e f : _) → packed-row-refusal.Post tt a r e → packed-row-refusal.Post tt a s f → r ≡ s
+packed-row-refusal-unique a r s e f p q = unique p q
+
+pub transaction-refusal-unique : (a : _) (r s : ℕ) (e f : _) → transaction-refusal.Post tt a r e → transaction-refusal.Post tt a s f → r ≡ s
+transaction-refusal-unique a r s e f p q = unique p q

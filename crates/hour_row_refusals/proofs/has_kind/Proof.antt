@@ -1,0 +1,17 @@
+-- `hour_row_refusals::has_kind` meets its contract. Assumes nothing.
+use borrow.Author.Tests.{eq-eqb, ne-eqb}
+use Rattle.hour_row_refusals.proofs.Markets.{neither, other}
+use Rattle.hour_row_refusals.proofs.has_kind.Statement.{statement}
+use Rattle.hour_row_refusals.proofs.has_kind.Tie as tie
+
+returns : tie.Need-returns
+returns c = let n = neither _ (c .if1 .taken) in simp (n .0, n .1)
+
+returns-2 : tie.Need-returns-2
+returns-2 c = simp (eq-eqb _ _ (c .if2 .taken))
+
+returns-3 : tie.Need-returns-3
+returns-3 c = simp (ne-eqb _ _ (c .if2 .left), other _ (c .before .if1 .left) (c .if2 .left))
+
+pub has-kind-spec : {M : Type 1} → statement M
+has-kind-spec = tie.close (tie.spec returns returns-2 returns-3)

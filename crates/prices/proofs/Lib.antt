@@ -1,2 +1,0 @@
-pub mod Prices
-pub mod Unique

@@ -1,2 +1,0 @@
-pub mod Hours
-pub mod Unique

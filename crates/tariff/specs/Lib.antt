@@ -1,3 +1,0 @@
-pub mod Tariff
-pub mod Parts
-pub mod Cases

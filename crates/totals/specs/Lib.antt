@@ -1,3 +1,0 @@
-pub mod Share
-pub mod Given
-pub mod Cases
