@@ -1,12 +1,12 @@
--- `statement::main` meets its contract. Assumes nothing.
+-- `statement_print::main` meets its contract. Assumes nothing.
 use mathlib.Core.Path.{sym}
 use Prim.Native.Nat.{_≤_}
 use lib.ListN.{length}
 use lib.Seq.{length-take-le}
 use borrow.Author.Needs.{needs}
-use Rattle.statement.proofs.Hours.{holds}
-use Rattle.statement.proofs.main.Statement.{statement}
-use Rattle.statement.proofs.main.Tie as tie
+use Rattle.statement_print.proofs.Hours.{holds}
+use Rattle.statement_print.proofs.main.Statement.{statement}
+use Rattle.statement_print.proofs.main.Tie as tie
 
 fits : (c : tie.After-put-statement) → c .put-statement .result ≤ length (c .put-statement .last .1 .0)
 fits c = holds _ _ (c .put-statement .ensures .0) (c .put-statement .ensures .1)

@@ -1,4 +1,4 @@
--- `statement::put_statement` meets its contract. Assumes nothing.
+-- `statement_print::put_statement` meets its contract. Assumes nothing.
 use mathlib.Core.Path.{_≡_, sym, ap, _∙_}
 use mathlib.Core.List.{List}
 use Prim.Native.Nat.{ℕ, _≤_}
@@ -12,9 +12,9 @@ use Rattle.exercise.specs.Order.{frameRefusal}
 use Rattle.exercise.specs.declared.Header.{Header}
 use Rattle.exercise.proofs.Whole.{small, whole}
 use Rattle.exercise.specs.File.{hourOf}
-use Rattle.statement.proofs.Hours.{refused-early}
-use Rattle.statement.proofs.put_statement.Statement.{statement}
-use Rattle.statement.proofs.put_statement.Tie as tie
+use Rattle.statement_print.proofs.Hours.{refused-early}
+use Rattle.statement_print.proofs.put_statement.Statement.{statement}
+use Rattle.statement_print.proofs.put_statement.Tie as tie
 
 -- the front of a list as it is made
 front : {n : ℕ} → n ≤ 64 → length (take n (replicate 64 (pos 0))) ≡ n

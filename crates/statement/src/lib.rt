@@ -1,16 +1,9 @@
-// The statement of an exercise file, written into a page line by line, and the program that prints it.
-ghost use mathlib.Core.Path.{_≡_};
-ghost use mathlib.Core.List.{_++_};
+// The lines of a statement, written into a page: each participant's, the last one, and a refusal's.
 ghost use Prim.Native.Nat.{_+_, _*_, _≤_, _<_};
-ghost use lib.ListN.{length, drop};
+ghost use lib.ListN.{length};
 ghost use Rattle.text.specs.Inside.{Written};
-ghost use Rattle.exercise.specs.Order.{frameRefusal};
-ghost use Rattle.exercise.specs.File.{hourOf};
-ghost use Rattle.hour_settle.specs.Inside.{Outputs};
 ghost use Rattle.statement.specs.Inside.{Printable};
-ghost use Rattle.statement.specs.Statement.{joined, amountField, amountFields, line, lastLine, lines, refusedLine, statementOf};
-use libc::STDIN_FILENO;
-use libc::STDOUT_FILENO;
+ghost use Rattle.statement.specs.Statement.{joined, amountField, amountFields, line, lastLine, lines, refusedLine};
 use units::Cents;
 
 // An amount, after a space.
@@ -115,7 +108,7 @@ fn put_last(
 }
 
 // The lines of all participants, and the last one.
-fn put_settled(
+pub fn put_settled(
     page: &mut [u8],
     congestion: &[i64],
     loss: &[i64],
@@ -131,7 +124,7 @@ fn put_settled(
 }
 
 // A refusal.
-fn put_refused(page: &mut [u8], number: u32) -> usize
+pub fn put_refused(page: &mut [u8], number: u32) -> usize
     requires { ⌜ 29 ≤ length (now page) ⌝ }
     ensures { λ r. ⌜ Written (now (page .entry)) 0 (refusedLine number) (now (page .exit)) r ⌝ }
     ensures { λ r. ⌜ r ≤ 29 ⌝ }
@@ -139,60 +132,4 @@ fn put_refused(page: &mut [u8], number: u32) -> usize
     let start = text::put_bytes(page, 0, b"refused ");
     let end = text::put_decimal(page, start, number as i64);
     text::put_byte(page, end, b'\n')
-}
-
-// The statement of a file that passes the order to its length, settled into lists as long as the participants.
-fn put_hour(
-    file: &[u8],
-    page: &mut [u8],
-    congestion: &mut [i64],
-    loss: &mut [i64],
-    credit: &mut [i64],
-    net: &mut [i64],
-) -> usize
-    requires { ⌜ (frameRefusal (now file) ≡ 0) × (6825 ≤ length (now page)) ⌝ }
-    requires { ⌜ Outputs (hourOf (now file) .participants) (now congestion) (now loss) (now credit) (now net) ⌝ }
-    ensures { λ r. ⌜ Written (now (page .entry)) 0 (statementOf (now (file .entry))) (now (page .exit)) r ⌝ }
-    ensures { λ r. ⌜ r ≤ 6825 ⌝ }
-{
-    let answer = hour_settle::settle(file, congestion, loss, credit, net);
-    if answer != 0 {
-        return put_refused(page, answer);
-    }
-    put_settled(page, congestion, loss, credit, net)
-}
-
-// The statement of a file, at the start of a page; the answer is its length. 64 participants and their sums have 65 lines
-// of 105 bytes at most.
-pub fn put_statement(file: &[u8], page: &mut [u8; 6825]) -> usize
-    ensures { λ r. ⌜ r ≡ length (statementOf (now (file .entry))) ⌝ }
-    ensures { λ _. ⌜ now (page .exit) ≡ statementOf (now (file .entry)) ++ drop (length (statementOf (now (file .entry)))) (now (page .entry)) ⌝ }
-{
-    let refusal = exercise_file::frame_refusal(file);
-    if refusal != 0 {
-        return put_refused(page, refusal);
-    }
-    let mut congestion = [0i64; 64];
-    let mut loss = [0i64; 64];
-    let mut credit = [0i64; 64];
-    let mut net = [0i64; 64];
-    let n = exercise_file::read_header(file).participants;
-    put_hour(
-        file,
-        page,
-        &mut congestion[..n],
-        &mut loss[..n],
-        &mut credit[..n],
-        &mut net[..n],
-    )
-}
-
-// The program: the statement of the exercise file on standard input. It reads one byte more than the longest file has, so
-// that longer input is refused by its length.
-fn main() {
-    let mut file = [0u8; 18822];
-    let n = io::read_full(STDIN_FILENO, &mut file);
-    let mut page = [0u8; 6825];
-    let length = put_statement(&file[..n], &mut page);
-    io::write_all(STDOUT_FILENO, &page[..length]);
 }

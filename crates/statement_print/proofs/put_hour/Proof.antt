@@ -1,4 +1,4 @@
--- `statement::put_hour` meets its contract. Assumes nothing.
+-- `statement_print::put_hour` meets its contract. Assumes nothing.
 use mathlib.Core.Path.{_≡_, _∙_}
 use mathlib.Core.List.{List}
 use Prim.Native.Nat.{ℕ, _≤_}
@@ -8,10 +8,10 @@ use Rattle.text.proofs.Laws.{told}
 use Rattle.exercise.specs.File.{hourOf}
 use Rattle.hour.specs.Charges.{congestionCharges, lossCharges}
 use Rattle.hour.specs.Surplus.{credits, nets}
 use Rattle.statement.specs.Inside.{Printable}
-use Rattle.statement.proofs.Hours as hours
-use Rattle.statement.proofs.put_hour.Statement.{statement}
-use Rattle.statement.proofs.put_hour.Tie as tie
+use Rattle.statement_print.proofs.Hours as hours
+use Rattle.statement_print.proofs.put_hour.Statement.{statement}
+use Rattle.statement_print.proofs.put_hour.Tie as tie
 
 -- after the hour was settled and accepted: the lists are those of the definition
 module _ (l : tie.Else1) where
