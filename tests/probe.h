@@ -1,8 +1,8 @@
 /*
  * What the tests see of the engine beneath its C interface: decoding one row,
  * the check of a file and the reader of its rows. These are no calls of the
- * product; they stand in an archive of their own, libexercise_probe.a. Lists and answers
- * are those of wunzelihle.h.
+ * product; they stand in an archive of their own, libexercise_probe.a. Lists
+ * and answers are those of wunzelihle.h.
  */
 #ifndef PROBE_H
 #define PROBE_H

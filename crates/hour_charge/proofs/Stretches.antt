@@ -1,4 +1,4 @@
--- The parts of a file that passes the order to its length, as they were read. Assumes nothing.
+-- The stretches of a file that passes the order to its length, as they were read. Assumes nothing.
 use mathlib.Core.Path.{_≡_, ap, _∙_, subst}
 use mathlib.Core.List.{List}
 use Prim.Native.Nat.{ℕ, _≤_}
