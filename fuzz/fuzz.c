@@ -77,15 +77,14 @@ static void lend_to_judge(struct list *list)
     list->lent = list->after;
 }
 
-/* Gives 1 where the list is as the judge left it, else prints the first byte that isn't. */
-static int holds(const struct list *list)
+int is_same(const char *name, const uint8_t *bytes, const uint8_t *wanted, size_t len)
 {
     size_t i;
 
-    for (i = 0; i < list->len; i++)
-        if (list->lent[i] != list->after[i]) {
-            fprintf(stderr, "%s (%zu bytes) has %02x at byte %zu, not %02x\n", list->name,
-                    list->len, list->lent[i], i, list->after[i]);
+    for (i = 0; i < len; i++)
+        if (bytes[i] != wanted[i]) {
+            fprintf(stderr, "%s (%zu bytes) has %02x at byte %zu, not %02x\n", name, len, bytes[i],
+                    i, wanted[i]);
             return 0;
         }
     return 1;
@@ -131,15 +130,15 @@ static void print_case(const struct call *call, uint32_t judged)
     fflush(stdout);
 }
 
-static int answers(const struct call *call, uint32_t answer, uint32_t judged)
+int answers(const char *name, uint32_t answer, uint32_t wanted)
 {
-    if (answer == judged)
+    if (answer == wanted)
         return 1;
-    fprintf(stderr, "%s answers %" PRIu32 ", not %" PRIu32 "\n", call->name, answer, judged);
+    fprintf(stderr, "%s answers %" PRIu32 ", not %" PRIu32 "\n", name, answer, wanted);
     return 0;
 }
 
-void hold_to_judge(const struct call *call)
+uint32_t hold_to_judge(const struct call *call)
 {
     uint32_t judged;
     int pass, right = 1;
@@ -154,12 +153,17 @@ void hold_to_judge(const struct call *call)
     for (pass = 0; pass < PASSES; pass++) {
         for (i = 0; i < call->lists; i++)
             lend(&call->list[i], pass);
-        right &= answers(call, call->engine(call->list), judged);
-        for (i = 0; i < call->lists; i++)
-            right &= holds(&call->list[i]) & guard_holds(&call->list[i], pass);
+        right &= answers(call->name, call->engine(call->list), judged);
+        for (i = 0; i < call->lists; i++) {
+            const struct list *list = &call->list[i];
+
+            right &= is_same(list->name, list->lent, list->after, list->len) &
+                     guard_holds(list, pass);
+        }
         if (!right)
             abort();
     }
+    return judged;
 }
 
 int64_t number_at(const struct list *list, size_t i)
@@ -251,7 +255,7 @@ int64_t take_choice(struct source *source, int64_t count)
 
     switch (byte) {
     case 0xff: return take_bytes(source, 8);
-    case 0xfe: return count + take(source);
+    case 0xfe: return (int64_t)((uint64_t)count + take(source));
     case 0xfd: return -1 - (int64_t)take(source);
     default: return count > 0 ? byte % count : byte;
     }

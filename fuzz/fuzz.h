@@ -8,7 +8,7 @@
 #include <stddef.h>
 #include <stdint.h>
 
-#define MOST_LIST_BYTES 65536 /* whole pages, also where these are large */
+#define MOST_LIST_BYTES 131072 /* whole pages, also where these are large */
 
 /* A list of a call. */
 struct list {
@@ -44,11 +44,16 @@ struct call {
 /*
  * Makes the call twice, each list once ending and once beginning where its
  * pages do, and the second time NULL for an empty one. Ends the program where
- * the answer or a byte of any list isn't the judge's. The answers are counted,
- * and the counts printed as the program ends. Where the environment has
- * PRINT_CASE the call is printed first, as a line of a case file of the tests.
+ * the answer or a byte of any list isn't the judge's, and gives that answer.
+ * The answers are counted, and the counts printed as the program ends. Where
+ * the environment has PRINT_CASE the call is printed first, as a line of a case
+ * file of the tests.
  */
-void hold_to_judge(const struct call *call);
+uint32_t hold_to_judge(const struct call *call);
+
+/* These give 1 where the answer, or a list, is what is wanted, else print it and give 0. */
+int answers(const char *name, uint32_t answer, uint32_t wanted);
+int is_same(const char *name, const uint8_t *bytes, const uint8_t *wanted, size_t len);
 
 /* Bytes of the fuzzer's that a call is made from, and the numbers made so far. */
 struct source {

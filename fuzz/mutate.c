@@ -401,7 +401,10 @@ static void spoil_length(struct draft *draft)
 static uint8_t spoil(struct draft *draft)
 {
     switch (below(8)) {
-    case 0: return (uint8_t)below(64);
+    case 0:
+        if (once_in(2))
+            spoil_bit(draft);
+        return (uint8_t)below(64);
     case 1: spoil_length(draft); return 0;
     case 2: spoil_bit(draft); /* fall through */
     default: spoil_bit(draft); return 0;

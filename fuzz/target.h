@@ -24,6 +24,19 @@ uint32_t judge_settle_hour(const uint8_t *file, size_t file_len,
                            uint8_t *credit, size_t credit_len,
                            uint8_t *net, size_t net_len);
 
+uint32_t judge_write_file(int64_t participants, int64_t locations, int64_t rows,
+                          int64_t transactions,
+                          const uint8_t *prices, size_t prices_len,
+                          const uint8_t *row_list, size_t row_list_len,
+                          const uint8_t *transaction_list,
+                          size_t transaction_list_len,
+                          uint8_t *file, size_t file_len);
+
+uint32_t judge_read_file(const uint8_t *file, size_t file_len,
+                         uint8_t *prices, size_t prices_len,
+                         uint8_t *row_list, size_t row_list_len,
+                         uint8_t *transaction_list, size_t transaction_list_len);
+
 /* Tries one input of the fuzzer's. */
 int LLVMFuzzerTestOneInput(const uint8_t *bytes, size_t len);
 

@@ -1,12 +1,9 @@
 #include "assignment.h"
 
-#include "files.h"
-#include "say.h"
+#include "text.h"
 
 #include <string.h>
 
-#define LONGEST_LINE 4000
-#define BLANKS " \t\r\v\f"
 #define ANY SIZE_MAX
 
 /* The lines there are. */
@@ -29,67 +26,19 @@ static const struct {
     [TRANCHE] = {"tranche", 2, 0, "write 'tranche PARTICIPANT COUNT', once for each, 0 to 63"},
 };
 
-/* The text that is read, and what was read of it. */
-struct text {
-    const char *name;
-    FILE *file;
-    size_t line_number;
-    char line[LONGEST_LINE + 1];
+/* What was read of the text. */
+struct reading {
     int seen[KINDS];
     int has_tranche[PARTICIPANTS];
     struct assignment *assignment;
 };
 
-/* Says what is wrong in the line at hand; gives 0. */
-static int fault(const struct text *text, const char *word, const char *why)
-{
-    fputs("host: ", stderr);
-    say_word(called(text->name));
-    fprintf(stderr, ": line %zu: ", text->line_number);
-    say_word(word);
-    fprintf(stderr, ": %s\n", why);
-    return 0;
-}
-
-/*
- * Reads the next line without its end; `end` is set where there is none. Gives
- * 0 where it can't be a line of the text.
- */
-static int next_line(struct text *text, int *end)
-{
-    size_t len = 0;
-    int c;
-
-    text->line_number++;
-    while ((c = getc(text->file)) != EOF && c != '\n') {
-        if (c == '\0')
-            return fault(text, "a zero byte", "write plain text");
-        if (len == LONGEST_LINE)
-            return fault(text, "too long", "a line has up to 4000 bytes");
-        text->line[len++] = (char)c;
-    }
-    text->line[len] = '\0';
-    *end = c == EOF && len == 0;
-    return 1;
-}
-
-/* Cuts the next word off the rest of a line; NULL where there is none. */
-static char *next_word(char **rest)
-{
-    char *word = *rest + strspn(*rest, BLANKS);
-    char *after = word + strcspn(word, BLANKS);
-
-    *rest = *after ? after + 1 : after;
-    *after = '\0';
-    return *word ? word : NULL;
-}
-
-static int read_numbers(const struct text *text, char *rest, struct list *numbers)
+static int read_numbers(struct text *text, struct list *numbers)
 {
     const char *word;
 
     numbers->len = 0;
-    while ((word = next_word(&rest))) {
+    while ((word = next_word(text))) {
         int64_t number;
         const char *why = read_number(word, &number);
 
@@ -114,19 +63,19 @@ static int take_area(struct assignment *assignment, const struct list *parts)
 }
 
 /* The list of tranches has a place for participants 0 to 63, and for no other. */
-static int take_tranche(struct text *text, int64_t participant, int64_t count)
+static int take_tranche(struct reading *reading, int64_t participant, int64_t count)
 {
-    if (participant < 0 || participant >= PARTICIPANTS || text->has_tranche[participant])
+    if (participant < 0 || participant >= PARTICIPANTS || reading->has_tranche[participant])
         return 0;
-    text->has_tranche[participant] = 1;
-    set_number(text->assignment->tranches.bytes, (size_t)participant, count);
+    reading->has_tranche[participant] = 1;
+    set_number(reading->assignment->tranches.bytes, (size_t)participant, count);
     return 1;
 }
 
 /* Takes the numbers of a line; gives 0 where they aren't in its form. */
-static int take(struct text *text, enum kind kind, const struct list *numbers)
+static int take(struct reading *reading, enum kind kind, const struct list *numbers)
 {
-    struct assignment *assignment = text->assignment;
+    struct assignment *assignment = reading->assignment;
 
     if (kinds[kind].numbers != ANY && kinds[kind].numbers != count_of(numbers))
         return 0;
@@ -152,7 +101,7 @@ static int take(struct text *text, enum kind kind, const struct list *numbers)
         add_list(&assignment->contracts, numbers);
         break;
     case TRANCHE:
-        return take_tranche(text, number_at(numbers->bytes, 0), number_at(numbers->bytes, 1));
+        return take_tranche(reading, number_at(numbers->bytes, 0), number_at(numbers->bytes, 1));
     case KINDS:
         return 0;
     }
@@ -168,58 +117,34 @@ static enum kind kind_of(const char *word)
     return kind;
 }
 
-/* Reads the line at hand into the assignment. */
-static int read_line(struct text *text)
+static int take_line(struct text *text, void *into)
 {
-    char *rest = text->line;
+    struct reading *reading = into;
     struct list numbers;
-    const char *word;
-    enum kind kind;
+    const char *word = next_word(text);
+    enum kind kind = kind_of(word);
 
-    text->line[strcspn(text->line, "#")] = '\0';
-    word = next_word(&rest);
-    if (!word)
-        return 1;
-    kind = kind_of(word);
     if (kind == KINDS)
         return fault(text, word, "no such line; there are metered, distributor, loads, imports, "
                                  "generation, area, contract and tranche");
-    if (kinds[kind].once && text->seen[kind])
+    if (kinds[kind].once && reading->seen[kind])
         return fault(text, word, "there is such a line already; keep one of them");
-    if (!read_numbers(text, rest, &numbers))
+    if (!read_numbers(text, &numbers))
         return 0;
-    if (!take(text, kind, &numbers))
+    if (!take(reading, kind, &numbers))
         return fault(text, word, kinds[kind].form);
-    text->seen[kind] = 1;
+    reading->seen[kind] = 1;
     return 1;
 }
 
-static int read_lines(struct text *text)
-{
-    int end = 0;
-
-    while (next_line(text, &end)) {
-        if (end)
-            return 1;
-        if (!read_line(text))
-            return 0;
-    }
-    return 0;
-}
-
 /* Gives 0 where a line is missing, and has said which. */
-static int is_whole(const struct text *text)
+static int is_whole(const struct text *text, const struct reading *reading)
 {
     enum kind kind = METERED;
 
-    while (kind < KINDS && (!kinds[kind].once || text->seen[kind]))
+    while (kind < KINDS && (!kinds[kind].once || reading->seen[kind]))
         kind++;
-    if (kind == KINDS)
-        return 1;
-    fputs("host: ", stderr);
-    say_word(called(text->name));
-    fprintf(stderr, ": there is no line '%s'; %s\n", kinds[kind].word, kinds[kind].form);
-    return 0;
+    return kind == KINDS || missing(text, kinds[kind].word, kinds[kind].form);
 }
 
 static void clear(struct assignment *assignment)
@@ -233,15 +158,10 @@ static void clear(struct assignment *assignment)
 
 int read_assignment(const char *name, struct assignment *assignment)
 {
-    struct text text = {0};
-    int right;
+    struct reading reading = {0};
+    struct text text;
 
     clear(assignment);
-    text.name = name;
-    text.assignment = assignment;
-    text.file = open_file(name);
-    if (!text.file)
-        return 0;
-    right = read_lines(&text);
-    return close_file(text.file, name) && right && is_whole(&text);
+    reading.assignment = assignment;
+    return read_text(&text, name, take_line, &reading) && is_whole(&text, &reading);
 }

@@ -5,30 +5,37 @@
 #include <errno.h>
 #include <string.h>
 
-static int is_standard_input(const char *name)
+int is_standard(const char *name)
 {
     return strcmp(name, "-") == 0;
 }
 
 const char *called(const char *name)
 {
-    return is_standard_input(name) ? "standard input" : name;
+    return is_standard(name) ? "standard input" : name;
 }
 
-static void complain_of(const char *name, int reason)
+/* Says what went wrong with a file, and what to do; gives 0. */
+static int complain_of(const char *name, int reason, const char *what_to_do)
 {
     char why[256];
 
-    snprintf(why, sizeof why, "%s; give the name of a file that can be read", strerror(reason));
-    complain(called(name), why);
+    snprintf(why, sizeof why, "%s; %s", strerror(reason), what_to_do);
+    complain(name, why);
+    return 0;
+}
+
+static int unreadable(const char *name, int reason)
+{
+    return complain_of(called(name), reason, "give the name of a file that can be read");
 }
 
 FILE *open_file(const char *name)
 {
-    FILE *file = is_standard_input(name) ? stdin : fopen(name, "rb");
+    FILE *file = is_standard(name) ? stdin : fopen(name, "rb");
 
     if (!file)
-        complain_of(name, errno);
+        unreadable(name, errno);
     return file;
 }
 
@@ -36,11 +43,9 @@ int close_file(FILE *file, const char *name)
 {
     int failed = ferror(file), reason = errno;
 
-    if (!is_standard_input(name))
+    if (!is_standard(name))
         fclose(file);
-    if (failed)
-        complain_of(name, reason);
-    return !failed;
+    return !failed || unreadable(name, reason);
 }
 
 int read_file(const char *name, uint8_t *bytes, size_t room, size_t *len)
@@ -51,4 +56,38 @@ int read_file(const char *name, uint8_t *bytes, size_t room, size_t *len)
         return 0;
     *len = fread(bytes, 1, room, file);
     return close_file(file, name);
+}
+
+/* Writes and closes the file; gives 0, or the reason why it can't be written. */
+static int write_out(FILE *file, const uint8_t *bytes, size_t len)
+{
+    int reason = 0;
+
+    errno = 0;
+    if (fwrite(bytes, 1, len, file) != len)
+        reason = errno ? errno : EIO;
+    if (fclose(file) != 0 && reason == 0)
+        reason = errno ? errno : EIO;
+    return reason;
+}
+
+int write_file(const char *name, const uint8_t *bytes, size_t len)
+{
+    FILE *file;
+    int reason;
+
+    if (is_standard(name)) {
+        fwrite(bytes, 1, len, stdout);
+        return flushed(STATUS_DONE) == STATUS_DONE;
+    }
+    file = fopen(name, "wb");
+    if (!file)
+        return complain_of(name, errno, "give the name of a file that can be written");
+    reason = write_out(file, bytes, len);
+    if (reason == 0)
+        return 1;
+    file = fopen(name, "wb"); /* which empties it */
+    if (file)
+        fclose(file);
+    return complain_of(name, reason, "it is empty now; make room for it and try again");
 }

@@ -8,7 +8,10 @@
 #include <stdint.h>
 #include <stdio.h>
 
-/* What a file is called in messages: "-" is standard input. */
+/* Whether a name is "-", standard input or output. */
+int is_standard(const char *name);
+
+/* What a file that is read is called in messages: "-" is standard input. */
 const char *called(const char *name);
 
 /* Opens a file to be read, NULL where it can't be; it has then said why. */
@@ -25,5 +28,11 @@ int close_file(FILE *file, const char *name);
  * where it can't be read; it has then said why.
  */
 int read_file(const char *name, uint8_t *bytes, size_t room, size_t *len);
+
+/*
+ * Writes a file of these bytes; "-" is standard output. Gives 1, or 0 where the file can't be written; it has then said why, and
+ * left nothing of the bytes in it.
+ */
+int write_file(const char *name, const uint8_t *bytes, size_t len);
 
 #endif

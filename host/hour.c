@@ -1,19 +1,16 @@
 #include "hour.h"
 
-#include "files.h"
-#include "refusals.h"
+#include "exercise_file.h"
 #include "statement.h"
 #include "wunzelihle.h"
-
-#define LONGEST_FILE 18821
 
 /*
  * How many participants the header tells of, and so how long the lists are: six
  * bits, less 1. A file without a header is refused, whatever this is.
  */
-static size_t participants_of(const uint8_t *file, size_t file_len)
+static size_t participants_of(const struct exercise_file *file)
 {
-    return file_len > 0 ? (size_t)(file[0] >> 2) + 1 : 1;
+    return file->len > 0 ? (size_t)(file->bytes[0] >> 2) + 1 : 1;
 }
 
 /* Takes a figure of every participant from its list. In an accepted hour its total fits. */
@@ -29,12 +26,12 @@ static void take_figure(struct statement *statement, size_t figure, const uint8_
     statement->total[figure] = total;
 }
 
-static uint32_t settle(const uint8_t *file, size_t file_len, struct statement *statement)
+static uint32_t settle(const struct exercise_file *file, struct statement *statement)
 {
     uint8_t list[FIGURES][NUMBER * PARTICIPANTS];
-    size_t participants = participants_of(file, file_len), len = NUMBER * participants, f;
-    uint32_t refusal = wz_settle_hour(file, file_len, list[CONGESTION], len, list[LOSS], len,
-                                      list[CREDIT], len, list[NET], len);
+    size_t participants = participants_of(file), len = NUMBER * participants, f;
+    uint32_t refusal = wz_settle_hour(file->bytes, file->len, list[CONGESTION], len, list[LOSS],
+                                      len, list[CREDIT], len, list[NET], len);
 
     if (refusal != WZ_OK)
         return refusal;
@@ -46,16 +43,15 @@ static uint32_t settle(const uint8_t *file, size_t file_len, struct statement *s
 
 static enum status settle_file(const char *name, void (*print)(const struct statement *))
 {
-    uint8_t file[LONGEST_FILE + 1]; /* one more, so that a longer file is refused by its length */
+    struct exercise_file file;
     struct statement statement;
     uint32_t refusal;
-    size_t len;
 
-    if (!read_file(name, file, sizeof file, &len))
+    if (!read_exercise_file(name, &file))
         return STATUS_FAULT;
-    refusal = settle(file, len, &statement);
+    refusal = settle(&file, &statement);
     if (refusal != WZ_OK)
-        return refuse(refusal);
+        return refuse_exercise_file(&file, refusal);
     print(&statement);
     return STATUS_DONE;
 }

@@ -51,6 +51,8 @@ const char *read_number(const char *word, int64_t *number)
     const char *digits = word + (*word == '-');
     intmax_t value;
 
+    if (strchr(word, ','))
+        return NO_COMMAS;
     if (*digits == '\0' || digits[strspn(digits, "0123456789")] != '\0')
         return "not a whole number; write digits alone, with a - before them below 0";
     errno = 0;

@@ -33,6 +33,9 @@ size_t count_of(const struct list *list);
 void add_number(struct list *list, int64_t number);
 void add_list(struct list *list, const struct list *more);
 
+/* What is wrong with a number that has commas. */
+#define NO_COMMAS "no commas in numbers"
+
 /*
  * Reads a whole number of 64 bits: digits, and a sign where it is below 0.
  * Gives NULL, or why it is none.

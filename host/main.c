@@ -1,12 +1,14 @@
 /*
- * host: settles an hour, splits an amount or assigns a load through the
- * engine's archive, as its words ask. README.md describes it.
+ * host: settles an hour, writes or shows its file, splits an amount or assigns
+ * a load through the engine's archive, as its words ask. README.md describes it.
  */
 #include "hour.h"
 #include "lists.h"
 #include "load.h"
 #include "say.h"
+#include "show.h"
 #include "split.h"
+#include "write.h"
 
 #include <stdio.h>
 #include <string.h>
@@ -15,10 +17,12 @@ static void print_usage(FILE *to)
 {
     fputs("usage: host FILE                    settle an exercise file, in cents\n"
           "       host --dollars FILE          the same in dollars, lined up\n"
+          "       host --write TEXT FILE       write an exercise file from its text form\n"
+          "       host --show FILE             print an exercise file in its text form\n"
           "       host --split AMOUNT SHARE..  split an amount over shares\n"
           "       host --load FILE             assign a distributor's load\n"
           "       host --help                  print this\n"
-          "FILE may be - for standard input.\n",
+          "- stands for standard input, or for standard output where a file is written.\n",
           to);
 }
 
@@ -37,6 +41,16 @@ static enum status with_file(const char *option, char **word, enum status (*act)
     if (word[1])
         return misused(word[1], "one word too many; give one file");
     return act(word[0]);
+}
+
+/* Writes the second file that the words name from the first. */
+static enum status write_words(char **word)
+{
+    if (!word[0] || !word[1])
+        return misused("--write", "give the names of a text and of the file to be written");
+    if (word[2])
+        return misused(word[2], "one word too many; give a text and a file");
+    return write_from_text(word[0], word[1]);
 }
 
 /* Splits the first of the words over the others. */
@@ -70,6 +84,10 @@ static enum status run(char **word)
         return split_words(word + 1);
     if (strcmp(option, "--dollars") == 0)
         return with_file(option, word + 1, settle_in_dollars);
+    if (strcmp(option, "--write") == 0)
+        return write_words(word + 1);
+    if (strcmp(option, "--show") == 0)
+        return with_file(option, word + 1, show_as_text);
     if (strcmp(option, "--load") == 0)
         return with_file(option, word + 1, assign_load);
     if (strcmp(option, "--help") == 0 && !word[1]) {
@@ -80,6 +98,8 @@ static enum status run(char **word)
         return misused(word[1], "one word too many");
     if (option[0] == '-' && option[1] != '\0')
         return misused(option, "no such option; put ./ before a file's name that begins with -");
+    if (word[1] && strncmp(word[1], "--", 2) == 0)
+        return misused(word[1], "put it before the file");
     return with_file(option, word, settle_in_cents);
 }
 

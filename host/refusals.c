@@ -34,12 +34,18 @@ const char *sentence_of(uint32_t refusal)
     }
 }
 
+enum status say_refusal(uint32_t refusal)
+{
+    fprintf(stderr, "host: refusal %" PRIu32 ": %s\n", refusal, sentence_of(refusal));
+    return STATUS_REFUSED;
+}
+
 enum status refuse(uint32_t refusal)
 {
     enum status status;
 
     printf("refused %" PRIu32 "\n", refusal);
     status = flushed(STATUS_REFUSED); /* the answer stands before the sentence */
-    fprintf(stderr, "host: refusal %" PRIu32 ": %s\n", refusal, sentence_of(refusal));
+    say_refusal(refusal);
     return status;
 }

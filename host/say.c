@@ -13,6 +13,11 @@ void say_word(const char *word)
     }
 }
 
+const char *plural(size_t count)
+{
+    return count == 1 ? "" : "s";
+}
+
 enum status complain(const char *word, const char *why)
 {
     fputs("host: ", stderr);

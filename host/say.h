@@ -5,6 +5,8 @@
 #ifndef SAY_H
 #define SAY_H
 
+#include <stddef.h>
+
 enum status {
     STATUS_DONE = 0,
     STATUS_REFUSED = 1, /* the engine refused */
@@ -16,6 +18,9 @@ enum status {
  * as a question mark.
  */
 void say_word(const char *word);
+
+/* What ends a word that there are so many of: "s", or nothing where there is one. */
+const char *plural(size_t count);
 
 /* Says what is wrong with a word or a file; gives STATUS_FAULT. */
 enum status complain(const char *word, const char *why);

@@ -2,8 +2,8 @@
  * wunzelihle.h: the C interface of the settlement engine.
  *
  * This file is the manual of the boundary. The rules themselves are those of
- * document 01, the project's paper on what is built; where the two differ,
- * document 01 decides.
+ * documents 01 and 02, the project's papers on what is built; where this file
+ * differs from them, they decide.
  *
  * NUMBERS AND LISTS
  *
@@ -55,7 +55,7 @@ extern "C" {
 #define WZ_OK            0u /* done, the result is written */
 #define WZ_LENGTH        1u /* a count is beyond its size, or a list has the
                                wrong length (also one that is no multiple of
-                               eight bytes) */
+                               eight bytes), or there is no room for a file */
 #define WZ_RANGE         2u /* a number is outside its range */
 #define WZ_IDENTITY      3u /* an identity names no participant, location or
                                area */
@@ -267,6 +267,101 @@ uint32_t wz_settle_hour(const uint8_t *file, size_t file_len,
                         uint8_t *loss, size_t loss_len,
                         uint8_t *credit, size_t credit_len,
                         uint8_t *net, size_t net_len);
+
+/*
+ * wz_write_file: write the exercise file of an hour that is given in numbers.
+ *
+ *   participants, locations, rows, transactions
+ *                     how many there are: 1 to 64, 1 to 64, 0 to 2,048 and 0
+ *                     to 256. These are counts; the "less 1" of the file's
+ *                     header is the call's business
+ *   prices            26 numbers for each location, in mills per MWh,
+ *                     -5,000,000 to 5,000,000, in the file's order: congestion
+ *                     day-ahead for each location, congestion real time
+ *                     interval by interval, then loss the same way;
+ *                     prices_len is 208 times locations
+ *   row_list          six numbers for each row: market, kind, interval,
+ *                     participant, location, kW; row_list_len is 48 times rows
+ *   transaction_list  six numbers for each transaction: market, interval,
+ *                     participant, source, sink, kW; transaction_list_len is
+ *                     48 times transactions
+ *   file              written: the file, from its first byte on. It has 5 + 78
+ *                     times locations + 6 times rows + 6 times transactions
+ *                     bytes, 18,821 at most, and file_len is at least that.
+ *                     Bytes beyond the file stay as they are
+ *
+ * Participants and locations are counted from 0 in rows and transactions. The
+ * layout of the file, and what markets, kinds and intervals are, stands with
+ * wz_settle_hour. The file passes every test of wz_settle_hour up to the last
+ * transaction; its surplus and shares may still be beyond their limits. Hand it
+ * on with its own length, not with that of a longer buffer. wz_read_file gives
+ * the three lists back, each number as it was.
+ *
+ *   2 participants, 1 location, prices all 0, no transactions, and one row, 1,
+ *   0, 11, 1, 0, 600 (real-time load of participant 1 in interval 11), give
+ *   the 89 bytes 04 00 01 00 00, 78 times 00, 8b 04 00 00 12 c0.
+ *
+ * Refusals, in their order:
+ *
+ *   WZ_LENGTH     participants, locations, rows or transactions is outside its
+ *                 range
+ *   WZ_LENGTH     prices_len, row_list_len or transaction_list_len isn't what
+ *                 stands above
+ *   WZ_RANGE      a price is outside its range
+ *
+ *   then of each row in turn
+ *   WZ_KIND       its market is neither 0 nor 1; its kind isn't 0 to 5, or is 4
+ *                 or 5 in real time; or its interval isn't 0 day-ahead, or 0 to
+ *                 11 in real time
+ *   WZ_IDENTITY   its participant or location is none of the hour's
+ *   WZ_RANGE      its kW are outside 0 to 20,000,000
+ *
+ *   then of each transaction in turn
+ *   WZ_KIND       its market is neither 0 nor 1; or its interval isn't 0
+ *                 day-ahead, or 0 to 11 in real time
+ *   WZ_IDENTITY   its participant, source or sink is none of the hour's
+ *   WZ_RANGE      its kW are outside 0 to 20,000,000
+ *
+ *   WZ_LENGTH     file_len is less than the file's bytes
+ *
+ * Stack: at most 1 KB.
+ */
+uint32_t wz_write_file(int64_t participants, int64_t locations, int64_t rows,
+                       int64_t transactions,
+                       const uint8_t *prices, size_t prices_len,
+                       const uint8_t *row_list, size_t row_list_len,
+                       const uint8_t *transaction_list,
+                       size_t transaction_list_len,
+                       uint8_t *file, size_t file_len);
+
+/*
+ * wz_read_file: read an exercise file as lists of numbers, those that
+ * wz_write_file would write it from.
+ *
+ *   file              the file as its own bytes; file_len is 83 to 18,821
+ *   prices            written: 26 numbers for each location
+ *   row_list          written: six numbers for each row
+ *   transaction_list  written: six numbers for each transaction
+ *
+ * The lists are those of wz_write_file, and as long. How many there are of each
+ * is told by the header, the first five bytes, the most significant bit first:
+ * participants less 1 (6), locations less 1 (6), rows (12), transactions (10),
+ * spare (6). Together with these four counts the lists make wz_write_file write
+ * the same bytes again. What the hour comes to is not worked out: a file whose
+ * surplus or shares are beyond their limits is read as well.
+ *
+ * Refusals: those of wz_settle_hour in their order, to the last transaction;
+ * in the place of the output lists
+ *
+ *   WZ_LENGTH     prices_len isn't 208 for each location, row_list_len 48 for
+ *                 each row, or transaction_list_len 48 for each transaction
+ *
+ * Stack: at most 1 KB.
+ */
+uint32_t wz_read_file(const uint8_t *file, size_t file_len,
+                      uint8_t *prices, size_t prices_len,
+                      uint8_t *row_list, size_t row_list_len,
+                      uint8_t *transaction_list, size_t transaction_list_len);
 
 #ifdef __cplusplus
 }

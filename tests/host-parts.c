@@ -7,6 +7,7 @@
 #include "lists.h"
 #include "refusals.h"
 #include "statement.h"
+#include "units.h"
 
 #include <inttypes.h>
 #include <stdio.h>
@@ -34,6 +35,35 @@ static int dollars_are_right(void)
            is_dollars("0.99", 99) & is_dollars("1.00", 100) & is_dollars("-1.00", -100) &
            is_dollars("-0.73", -73) & is_dollars("92233720368547758.07", INT64_MAX) &
            is_dollars("-92233720368547758.08", INT64_MIN);
+}
+
+/* Mills are written so in dollars and kW in MW, and are read back. */
+static int is_written(int64_t number, const char *dollars, const char *megawatts)
+{
+    char text[UNITS_LEN];
+    int64_t mills = 0, kw = 0;
+    int right;
+
+    dollars_text(number, text);
+    right = same("mills", dollars, text) && read_price(text, &mills) == NULL && mills == number;
+    megawatts_text(number, text);
+    right &= same("kW", megawatts, text);
+    text[strcspn(text, " ")] = '\0';
+    right &= read_power(text, "MW", &kw) == NULL && kw == number;
+    if (!right)
+        printf("%" PRId64 " isn't read back\n", number);
+    return right;
+}
+
+static int units_are_right(void)
+{
+    return is_written(0, "$0.00", "0 MW") & is_written(1, "$0.001", "0.001 MW") &
+           is_written(-1, "-$0.001", "-0.001 MW") & is_written(10, "$0.01", "0.01 MW") &
+           is_written(-100, "-$0.10", "-0.1 MW") & is_written(1000, "$1.00", "1 MW") &
+           is_written(64400, "$64.40", "64.4 MW") & is_written(-5000000, "-$5000.00", "-5000 MW") &
+           is_written(20000000, "$20000.00", "20000 MW") &
+           is_written(INT64_MAX, "$9223372036854775.807", "9223372036854775.807 MW") &
+           is_written(INT64_MIN, "-$9223372036854775.808", "-9223372036854775.808 MW");
 }
 
 /* A number written to a list is read from it, and has these bytes. */
@@ -91,8 +121,8 @@ static void print_table(void)
 
 int main(void)
 {
-    int right = dollars_are_right() & lists_are_right() & room_is_right() & is_none(0) &
-                is_none(11) & is_none(UINT32_MAX);
+    int right = dollars_are_right() & units_are_right() & lists_are_right() & room_is_right() &
+                is_none(0) & is_none(11) & is_none(UINT32_MAX);
 
     if (right)
         print_table();

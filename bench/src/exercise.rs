@@ -3,11 +3,11 @@
 /// Day-ahead, then each interval.
 pub const STAGES: usize = 13;
 
-const HEADER: usize = 5;
-const PRICE: usize = 3;
-const ROW: usize = 6;
-const MOST_PRICE: i32 = 5_000_000;
-const MOST_KW: i64 = 20_000_000;
+pub const HEADER: usize = 5;
+pub const PRICE: usize = 3;
+pub const ROW: usize = 6;
+pub const MOST_PRICE: i32 = 5_000_000;
+pub const MOST_KW: i64 = 20_000_000;
 
 /// The parts of a file.
 pub struct File<'a> {
@@ -61,10 +61,16 @@ impl File<'_> {
         })
     }
 
+    /// The bytes of the lists of prices, rows and transactions.
+    #[cfg(feature = "read")]
+    pub fn list_lens(&self) -> [usize; 3] {
+        let prices = self.prices.len() / PRICE;
+        [8 * prices, 8 * self.rows.len(), 8 * self.transactions.len()]
+    }
+
     /// Hands on each price with its place in the list.
     pub fn prices(&self, mut each: impl FnMut(usize, i32)) -> Result<(), u32> {
-        for (i, three) in self.prices.chunks_exact(PRICE).enumerate() {
-            let price = i32::from_be_bytes([three[0], three[1], three[2], 0]) >> 8;
+        for (i, price) in self.untested_prices().enumerate() {
             if !(-MOST_PRICE..=MOST_PRICE).contains(&price) {
                 return Err(2);
             }
@@ -75,23 +81,12 @@ impl File<'_> {
 
     /// Hands on each row in its turn.
     pub fn rows(&self, mut each: impl FnMut(Row)) -> Result<(), u32> {
-        for six in self.rows.chunks_exact(ROW) {
-            let word = word(six);
-            let location = (word >> 28 & 63) as usize;
-            let row = Row {
-                real_time: word >> 47 == 1,
-                kind: (word >> 44 & 7) as usize,
-                interval: (word >> 40 & 15) as usize,
-                participant: (word >> 34 & 63) as usize,
-                location,
-                sink: location,
-                kw: (word >> 3 & 0x1ff_ffff) as i64,
-            };
+        for (six, row) in self.rows.chunks_exact(ROW).zip(self.untested_rows()) {
             if row.kind > if row.real_time { 3 } else { 5 } {
                 return Err(4);
             }
             self.test(&row)?;
-            if word & 7 != 0 {
+            if six[5] & 7 != 0 {
                 return Err(9);
             }
             each(row);
@@ -101,9 +96,38 @@ impl File<'_> {
 
     /// Hands on each transaction in its turn.
     pub fn transactions(&self, mut each: impl FnMut(Row)) -> Result<(), u32> {
-        for six in self.transactions.chunks_exact(ROW) {
+        for transaction in self.untested_transactions() {
+            self.test(&transaction)?;
+            each(transaction);
+        }
+        Ok(())
+    }
+
+    pub fn untested_prices(&self) -> impl Iterator<Item = i32> + '_ {
+        let threes = self.prices.chunks_exact(PRICE);
+        threes.map(|three| i32::from_be_bytes([three[0], three[1], three[2], 0]) >> 8)
+    }
+
+    pub fn untested_rows(&self) -> impl Iterator<Item = Row> + '_ {
+        self.rows.chunks_exact(ROW).map(|six| {
             let word = word(six);
-            let transaction = Row {
+            let location = (word >> 28 & 63) as usize;
+            Row {
+                real_time: word >> 47 == 1,
+                kind: (word >> 44 & 7) as usize,
+                interval: (word >> 40 & 15) as usize,
+                participant: (word >> 34 & 63) as usize,
+                location,
+                sink: location,
+                kw: (word >> 3 & 0x1ff_ffff) as i64,
+            }
+        })
+    }
+
+    pub fn untested_transactions(&self) -> impl Iterator<Item = Row> + '_ {
+        self.transactions.chunks_exact(ROW).map(|six| {
+            let word = word(six);
+            Row {
                 real_time: word >> 47 == 1,
                 kind: 0,
                 interval: (word >> 43 & 15) as usize,
@@ -111,11 +135,8 @@ impl File<'_> {
                 location: (word >> 31 & 63) as usize,
                 sink: (word >> 25 & 63) as usize,
                 kw: (word & 0x1ff_ffff) as i64,
-            };
-            self.test(&transaction)?;
-            each(transaction);
-        }
-        Ok(())
+            }
+        })
     }
 
     /// What rows and transactions have in common.

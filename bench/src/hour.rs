@@ -42,22 +42,7 @@ impl Case for Hour {
     }
 
     fn engine(&self, out: &mut [u8]) -> u32 {
-        let [congestion, loss, credit, net] = self.lists(out);
-        // Every list is lent with its own length.
-        unsafe {
-            wz_settle_hour(
-                self.file.as_ptr(),
-                self.file.len(),
-                congestion.as_mut_ptr(),
-                congestion.len(),
-                loss.as_mut_ptr(),
-                loss.len(),
-                credit.as_mut_ptr(),
-                credit.len(),
-                net.as_mut_ptr(),
-                net.len(),
-            )
-        }
+        engine(&self.file, self.lists(out))
     }
 
     fn plain(&self, out: &mut [u8]) -> u32 {
@@ -80,6 +65,25 @@ impl Case for Hour {
     fn draw(turn: usize, random: &mut Random) -> Hour {
         let (file, lens) = cases::hour::draw(turn, random);
         Hour { file, lens }
+    }
+}
+
+fn engine(file: &[u8], lists: [&mut [u8]; 4]) -> u32 {
+    let [congestion, loss, credit, net] = lists;
+    // Every list is lent with its own length.
+    unsafe {
+        wz_settle_hour(
+            file.as_ptr(),
+            file.len(),
+            congestion.as_mut_ptr(),
+            congestion.len(),
+            loss.as_mut_ptr(),
+            loss.len(),
+            credit.as_mut_ptr(),
+            credit.len(),
+            net.as_mut_ptr(),
+            net.len(),
+        )
     }
 }
 
@@ -229,4 +233,22 @@ fn settle(file: &[u8], lists: [&mut [u8]; 4]) -> Result<(), u32> {
 /// Twelfths to cents, halves away from zero.
 fn cents(twelfths: i64) -> i64 {
     (twelfths + 60_000 * twelfths.signum()) / 120_000
+}
+
+/// The longest hours, each as the reference's case.
+#[cfg(any(feature = "write", feature = "read"))]
+pub fn longest() -> Vec<cases::hour::Case> {
+    let mut random = Random::new(1);
+    let mut case = || cases::hour::accepted(64, 64, 2_048, 256, &mut random);
+    (0..16).map(|_| case()).collect()
+}
+
+/// What the engine answers as it settles a file of 64 participants. Lists are
+/// the first bytes of some that have room for them.
+#[cfg(any(feature = "write", feature = "read"))]
+pub fn settle_beside(file: &[u8], room: &mut [u8]) -> u32 {
+    let (congestion, room) = room.split_at_mut(512);
+    let (loss, room) = room.split_at_mut(512);
+    let (credit, room) = room.split_at_mut(512);
+    engine(file, [congestion, loss, credit, &mut room[..512]])
 }

@@ -1,5 +1,6 @@
 //! Times the engine's calls beside plain Rust and the reference in one run, and
-//! checks that they agree. Each call is a feature, as an archive may not have it.
+//! checks that they agree. Each call is a feature, as an archive may not have it;
+//! writing and reading are also timed beside settling.
 
 #[cfg(feature = "check")]
 mod check;
@@ -9,11 +10,15 @@ mod exercise;
 mod hour;
 #[cfg(feature = "load")]
 mod load;
+#[cfg(feature = "read")]
+mod read;
 #[cfg(any(feature = "split", feature = "load", feature = "hour"))]
 mod shares;
 #[cfg(feature = "split")]
 mod split;
 mod timing;
+#[cfg(feature = "write")]
+mod write;
 
 fn main() {
     println!(
@@ -28,4 +33,8 @@ fn main() {
     check::compare();
     #[cfg(feature = "hour")]
     hour::compare();
+    #[cfg(feature = "write")]
+    write::compare();
+    #[cfg(feature = "read")]
+    read::compare();
 }

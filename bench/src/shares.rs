@@ -9,7 +9,7 @@ pub enum Step {
     Second,
 }
 
-#[cfg(any(feature = "split", feature = "load"))]
+#[cfg(any(feature = "split", feature = "load", feature = "write"))]
 pub fn number(eight: &[u8]) -> i64 {
     i64::from_le_bytes(eight.try_into().unwrap())
 }

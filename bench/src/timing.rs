@@ -20,9 +20,14 @@ pub trait Case: Sized {
 
     /// A case of the reference's, of any family.
     fn draw(turn: usize, random: &mut Random) -> Self;
+
+    /// What else is timed beside the three, by its name.
+    fn beside() -> Option<(&'static str, Answer<Self>)> {
+        None
+    }
 }
 
-type Answer<C> = fn(&C, &mut [u8]) -> u32;
+pub type Answer<C> = fn(&C, &mut [u8]) -> u32;
 
 /// Leaves the program unless plain Rust does what the reference does.
 pub fn try_plain<C: Case>() {
@@ -32,39 +37,52 @@ pub fn try_plain<C: Case>() {
     }
 }
 
-/// Prints the times of the three over cases of one size.
+/// Prints the times of all over cases of one size.
 pub fn compare<C: Case>(name: &str, cases: &[C]) {
     let mut random = Random::new(2);
     for case in cases {
         agree(case, C::engine, &mut random);
         agree(case, C::plain, &mut random);
-    }
-    let answers: [Answer<C>; 3] = [C::engine, C::plain, C::reference];
-    let passes = answers.map(|answer| {
-        let pass = time(answer, cases, 1) * cases.len() as f64;
-        (ROUND_NANOSECONDS / pass).ceil() as usize
-    });
-    let mut times = [(); 3].map(|_| Vec::new());
-    for round in 0..ROUNDS {
-        // The one that goes first changes, too.
-        for turn in 0..3 {
-            let at = (round + turn) % 3;
-            times[at].push(time(answers[at], cases, passes[at]));
+        if let Some((name, answer)) = C::beside() {
+            assert_eq!(answer(case, &mut vec![0; case.out_len()]), 0, "{name}");
         }
     }
-    let [engine, plain, reference] = times.map(best_and_median);
+    let mut timed: Vec<(&str, Answer<C>)> = vec![
+        ("engine", C::engine),
+        ("plain Rust", C::plain),
+        ("reference", C::reference),
+    ];
+    timed.extend(C::beside());
+    let times = times_of(&timed, cases);
     println!("{name}");
-    for (name, times) in [
-        ("engine", engine),
-        ("plain Rust", plain),
-        ("reference", reference),
-    ] {
+    for ((name, _), times) in timed.iter().zip(&times) {
         println!("  {name:21}{:11.1}{:11.1}", times.0, times.1);
     }
-    for (name, other) in [("plain Rust", plain), ("the reference", reference)] {
+    let engine = times[0];
+    for ((name, _), other) in timed.iter().zip(&times).skip(1) {
         let (best, median) = (engine.0 / other.0, engine.1 / other.1);
         println!("  engine/{name:14}{best:11.3}{median:11.3}");
     }
+}
+
+/// The best and the median of each, taken in turns.
+fn times_of<C: Case>(timed: &[(&str, Answer<C>)], cases: &[C]) -> Vec<(f64, f64)> {
+    let passes: Vec<usize> = timed
+        .iter()
+        .map(|(_, answer)| {
+            let pass = time(*answer, cases, 1) * cases.len() as f64;
+            (ROUND_NANOSECONDS / pass).ceil() as usize
+        })
+        .collect();
+    let mut times = vec![Vec::new(); timed.len()];
+    for round in 0..ROUNDS {
+        // The one that goes first changes, too.
+        for turn in 0..timed.len() {
+            let at = (round + turn) % timed.len();
+            times[at].push(time(timed[at].1, cases, passes[at]));
+        }
+    }
+    times.into_iter().map(best_and_median).collect()
 }
 
 fn agree<C: Case>(case: &C, answer: Answer<C>, random: &mut Random) {

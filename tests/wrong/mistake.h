@@ -1,6 +1,7 @@
 /*
- * The one place where a stand-in over load.h, hour.h or exercise.h goes wrong.
- * It defines MISTAKE as one of these before it includes the body.
+ * The one place where a stand-in over load.h, hour.h, exercise.h, write.h or
+ * read.h goes wrong. It defines MISTAKE as one of these before it includes the
+ * body.
  */
 #ifndef MISTAKE_H
 #define MISTAKE_H
@@ -33,7 +34,30 @@ enum {
     RANGE_BEFORE_IDENTITY,
     TRANSACTIONS_UNTESTED,
     STRETCH_OF_REFUSED,
-    STRETCH_EARLY
+    STRETCH_EARLY,
+    /* of writing and reading */
+    FIELDS_EXCHANGED,
+    LENGTHS_CUT,
+    LISTS_LATE,
+    LOSS_FIRST,
+    /* of writing */
+    BELOW_ZERO_UNTESTED,
+    BUFFER_EXACT,
+    BUFFER_FIRST,
+    CLEARED_WHEN_REFUSED,
+    COUNTS_AS_THEY_ARE,
+    KW_LEFT,
+    LOW_HALVES,
+    MARKETS_UNTESTED,
+    PRICES_BY_SIZE,
+    REST_CLEARED,
+    ROWS_UNLIMITED,
+    SPARE_SET,
+    TRANSACTIONS_FIRST,
+    /* of reading */
+    LISTS_LONGER,
+    PRICES_UNSIGNED,
+    SHARES_WANTED
 };
 
 #endif

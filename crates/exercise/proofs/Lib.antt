@@ -7,3 +7,11 @@ pub mod Whole
 pub mod Reader
 pub mod Accepted
 pub mod Order
+pub mod Packing
+pub mod Runs
+pub mod Written
+pub mod Again
+pub mod Exact
+pub mod Turns
+pub mod Lists
+pub mod Round

@@ -1,6 +1,6 @@
 -- Prices that have no refusal are in range, an interval's own stretch holds its prices, and a table that was read holds them all. Assumes nothing.
 use mathlib.Core.Path.{_≡_, sym, ap, _∙_, subst}
-use mathlib.Core.Bool.{Bool}
+use mathlib.Core.Bool.{Bool, true, false}
 use mathlib.Core.List.{List}
 use Prim.Native.Nat.{ℕ, _+_, _*_, _≤_, _<_}
 use native.Mathlib.Decide.{decLt}
@@ -22,6 +22,16 @@ use Rattle.exercise.specs.File.{priceAt, pricesFrom}
 use Rattle.hour.specs.Hour.{intervalOf}
 use Rattle.exercise.specs.Inside.{priceRefusal, pricesInRefusal}
 use Rattle.hour.specs.Order.{isPrice}
+
+-- the test of a price, and its refusal
+module _ (price : ℤ) where
+  pub price-inside : isPrice price ≡ true → priceRefusal price ≡ 0
+  unfolding priceRefusal
+  price-inside e = ap (λ (b : Bool). unless b 2 0) e
+
+  pub price-outside : isPrice price ≡ false → priceRefusal price ≡ 2
+  unfolding priceRefusal
+  price-outside e = ap (λ (b : Bool). unless b 2 0) e
 
 price-within : (price : ℤ) → priceRefusal price ≡ 0 → Within price 5000000
 unfolding priceRefusal

@@ -4,7 +4,7 @@ use mathlib.Core.List.{List}
 use Prim.Native.Nat.{ℕ, _<_}
 use lib.Dec.{eqb}
 use borrow.Author.Tests.{eqb-true}
-use Rattle.ints.specs.InsideEvery.{Every}
+use Rattle.ints.specs.Each.{Every}
 use Rattle.ints.specs.Refusal.{unless}
 use Rattle.ints.proofs.Gather.{every-tab}
 use Rattle.ints.proofs.Refusals.{passed}

@@ -13,7 +13,7 @@ use Rattle.exercise.specs.Packed.{bytesAt}
 use Rattle.hour.specs.Order.{rowRefusal, transactionRefusal, surplusRefusal}
 use Rattle.exercise.specs.CasesFile.{times, statement}
 use Rattle.exercise.specs.File.{header, placesOf, hourOf}
-use Rattle.exercise.specs.Order.{headerRefusal, frameRefusal, spareOf, inNumbers, inBytes, hourRefusal}
+use Rattle.exercise.specs.Order.{headerRefusal, frameRefusal, inNumbers, inBytes, hourRefusal}
 use Rattle.hour.specs.Charges.{aheadAt, realAt, aheadPath, realPath, positionCharge, pathCharge, charge, congestionCharges, lossCharges}
 use Rattle.hour.specs.Surplus.{surplus, shares, credits, nets}
 use Rattle.hour.specs.Order.{packedRowRefusal, pricesRefusal, rowsRefusal, transactionsRefusal, contentRefusal}

@@ -42,7 +42,7 @@ givenRefusal participants locations bytes size =
     (unless (eqb bytes size) 9
     0))
 
--- a count that was tested to be 1 to 64, as a natural number
+-- a count as a natural number: one below 0 is refused
 abbrev pub countOf : ℤ → ℕ
 countOf count = natAbs count
 

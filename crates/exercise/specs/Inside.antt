@@ -1,6 +1,6 @@
 -- What the widths let a header say, and the order over the stretches of a file, as loops go through them. Assumes nothing.
-use mathlib.Core.List.{List}
-use Prim.Native.Nat.{ℕ, _≤_}
+use mathlib.Core.List.{List, [], _∷_}
+use Prim.Native.Nat.{ℕ, _-_, _≤_}
 use lib.IntN.{ℤ}
 use Rattle.ints.specs.Refusal.{unless}
 use Rattle.ints.specs.Turn.{_then_, inTurn}
@@ -8,6 +8,7 @@ use Rattle.hour.specs.Order.{isPrice}
 use Rattle.exercise.specs.Decoding.{rowAnswer, transactionAnswer}
 use Rattle.exercise.specs.File.{priceCount, priceAt, rowAt, transactionAt}
 use Rattle.exercise.specs.Order.{rowRefusalAt, transactionRefusalAt}
+use Rattle.exercise.specs.Written.{packed}
 use Rattle.exercise.specs.declared.DecodedRow.{DecodedRow}
 use Rattle.exercise.specs.declared.DecodedTransaction.{DecodedTransaction}
 use Rattle.exercise.specs.declared.Header.{Header}
@@ -48,3 +49,8 @@ decodedRowAt participants locations s i = rowAnswer (rowRefusalAt participants l
 
 abbrev pub decodedTransactionAt : ℕ → ℕ → List ℕ → ℕ → DecodedTransaction
 decodedTransactionAt participants locations s i = transactionAnswer (transactionRefusalAt participants locations s i) (transactionAt s i)
+
+-- ---- a header of so many participants, locations, rows and transactions, packed
+
+abbrev pub headerBits : ℕ → ℕ → ℕ → ℕ → ℕ
+headerBits p l r t = packed ((p - 1, 6) ∷ (l - 1, 6) ∷ (r, 12) ∷ (t, 10) ∷ (0, 6) ∷ [])

@@ -4,6 +4,10 @@ pub mod Order
 pub mod Reader
 pub mod Decoding
 pub mod Inside
+pub mod Written
+pub mod Lists
 pub mod CasesFile
+pub mod CasesWritten
+pub mod CasesLists
 pub mod CasesDecoding
 pub mod CasesHour

@@ -48,7 +48,7 @@ fileRefusal file = frameRefusal file then contentRefusal (hourOf file) (spareOf 
 abbrev pub settledRefusal : List ℕ → ℕ
 settledRefusal file = contentRefusal (hourOf file) (spareOf file) then creditsRefusal (hourOf file)
 
--- how long an output list of n numbers has to be, counted in numbers; and in bytes, "eight bytes a number", where it crosses: a "slice that is no multiple of eight"
+-- how long a list of n numbers has to be, counted in numbers; and in bytes, "eight bytes a number", where it crosses: a "slice that is no multiple of eight"
 -- isn't that long either
 abbrev pub inNumbers : ℕ → ℕ
 inNumbers n = n

@@ -7,6 +7,7 @@ use Rattle.ints.proofs.Unique.{unique}
 use Rattle.exercise.specs.declared.Header.{Header}
 use Rattle.exercise.specs.declared.Places.{Places}
 use Rattle.exercise_file.proofs.check.Reads as check
+use Rattle.exercise_file.proofs.content_refusal.Reads as content-refusal
 use Rattle.exercise_file.proofs.places_of.Reads as places-of
 use Rattle.exercise_file.proofs.read_header.Reads as read-header
 use Rattle.exercise_file.proofs.rows_stretch.Reads as rows-stretch
@@ -20,6 +21,9 @@ places-of-unique a r s e f p q = unique p q
 
 pub frame-refusal-unique : (κs : Lfts 1) (a : _) (r s : ℕ) (e f : _) → frame-refusal.Post κs a r e → frame-refusal.Post κs a s f → r ≡ s
 frame-refusal-unique κs a r s e f p q = unique p q
+
+pub content-refusal-unique : (κs : Lfts 1) (a : _) (r s : ℕ) (e f : _) → content-refusal.Post κs a r e → content-refusal.Post κs a s f → r ≡ s
+content-refusal-unique κs a r s e f p q = unique p q
 
 pub check-unique : (κs : Lfts 1) (a : _) (r s : ℕ) (e f : _) → check.Post κs a r e → check.Post κs a s f → r ≡ s
 check-unique κs a r s e f p q = unique p q

@@ -86,7 +86,7 @@ pub fn frame_refusal(file: &[u8]) -> u32
 }
 
 // The refusal from the prices on, 0 where there is none.
-fn content_refusal(file: &[u8]) -> u32
+pub fn content_refusal(file: &[u8]) -> u32
     requires { ⌜ frameRefusal (now file) ≡ 0 ⌝ }
     ensures { λ r. ⌜ r ≡ contentRefusal (hourOf (now (file .entry))) (spareOf (now (file .entry))) ⌝ }
 {

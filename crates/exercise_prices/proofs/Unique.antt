@@ -4,8 +4,13 @@ use mathlib.Core.Path.{_≡_}
 use Prim.Native.Nat.{ℕ}
 use contract.Lifetimes.{Lfts}
 use Rattle.ints.proofs.Unique.{unique}
+use Rattle.units.specs.declared.Mills.{Mills}
+use Rattle.exercise_prices.proofs.price_at.Reads as price-at
 use Rattle.exercise_prices.proofs.prices_refusal.Reads as prices-refusal
 use Rattle.exercise_prices.proofs.read_table.Reads as read-table
+
+pub price-at-unique : (κs : Lfts 1) (a : _) (r s : Mills) (e f : _) → price-at.Post κs a r e → price-at.Post κs a s f → r .0 ≡ s .0
+price-at-unique κs a r s e f p q = unique p q
 
 pub prices-refusal-unique : (κs : Lfts 1) (a : _) (r s : ℕ) (e f : _) → prices-refusal.Post κs a r e → prices-refusal.Post κs a s f → r ≡ s
 prices-refusal-unique κs a r s e f p q = unique p q

@@ -20,7 +20,7 @@ fn from_bits(u: u64) -> i64
 }
 
 // Price j of a stretch of prices.
-fn price_at(prices: &[u8], j: usize) -> Mills
+pub fn price_at(prices: &[u8], j: usize) -> Mills
     requires { ⌜ 3 * j + 3 ≤ length (now prices) ⌝ }
     ensures { λ r. ⌜ r .0 ≡ priceAt (now (prices .entry)) j ⌝ }
 {

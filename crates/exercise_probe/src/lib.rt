@@ -19,15 +19,7 @@ pub extern "C" fn probe_row(participants: i64, locations: i64, row: &[u8], field
     if fields.len() != 48 {
         return 1;
     }
-    let list = [
-        row.market as i64,
-        row.kind as i64,
-        row.interval as i64,
-        row.participant as i64,
-        row.location as i64,
-        row.kw.0 as i64,
-    ];
-    numbers::write_all(&list, fields);
+    exercise_read::put_row(row, fields);
     0
 }
 

@@ -4,7 +4,7 @@ ghost use Prim.Native.Nat.{_+_, _*_, _≤_, _<_};
 ghost use lib.ListN.{length};
 ghost use Rattle.ints.specs.Turn.{inTurn};
 ghost use Rattle.exercise.specs.Packed.{bytesAt};
-ghost use Rattle.exercise.specs.File.{rowOf, transactionOf};
+ghost use Rattle.exercise.specs.File.{rowOf, rowAt, transactionOf, transactionAt};
 ghost use Rattle.exercise.specs.Decoding.{decodedRowRefusal, decodedTransactionRefusal, givenRefusal, decodedRow, decodedTransaction};
 ghost use Rattle.exercise_rows.specs.Inside.{refusalAt, aloneRefusal};
 ghost use Rattle.exercise.specs.Inside.{decodedRowAt, decodedTransactionAt, rowsInRefusal, transactionsInRefusal};
@@ -60,7 +60,15 @@ fn row_of(v: u64) -> Row
     }
 }
 
-// Row i of a stretch of rows.
+// Row i of a stretch of rows, as it stands there.
+pub fn read_row(rows: &[u8], i: usize) -> Row
+    requires { ⌜ 6 * i + 6 ≤ length (now rows) ⌝ }
+    ensures { λ r. ⌜ r ≡ rowAt (now (rows .entry)) i ⌝ }
+{
+    row_of(six_at(rows, 6 * i))
+}
+
+// The same, tested.
 pub fn row_at(participants: usize, locations: usize, rows: &[u8], i: usize) -> DecodedRow
     requires { ⌜ 6 * i + 6 ≤ length (now rows) ⌝ }
     ensures { λ r. ⌜ r ≡ decodedRowAt participants locations (now (rows .entry)) i ⌝ }
@@ -100,7 +108,15 @@ fn transaction_of(v: u64) -> Transaction
     }
 }
 
-// Transaction i of a stretch of transactions.
+// Transaction i of a stretch of transactions, as it stands there.
+pub fn read_transaction(transactions: &[u8], i: usize) -> Transaction
+    requires { ⌜ 6 * i + 6 ≤ length (now transactions) ⌝ }
+    ensures { λ r. ⌜ r ≡ transactionAt (now (transactions .entry)) i ⌝ }
+{
+    transaction_of(six_at(transactions, 6 * i))
+}
+
+// The same, tested.
 pub fn transaction_at(
     participants: usize,
     locations: usize,
@@ -110,7 +126,7 @@ pub fn transaction_at(
     requires { ⌜ 6 * i + 6 ≤ length (now transactions) ⌝ }
     ensures { λ r. ⌜ r ≡ decodedTransactionAt participants locations (now (transactions .entry)) i ⌝ }
 {
-    let transaction = transaction_of(six_at(transactions, 6 * i));
+    let transaction = read_transaction(transactions, i);
     let refusal = hour_row_refusals::transaction_refusal(participants, locations, transaction);
     if refusal != 0 {
         return DecodedTransaction::Refused(refusal);
@@ -233,7 +249,7 @@ pub fn decode_row(participants: i64, locations: i64, row: &[u8]) -> DecodedRow
     if refusal != 0 {
         return DecodedRow::Refused(refusal);
     }
-    DecodedRow::Decoded(row_of(six_at(row, 0)))
+    DecodedRow::Decoded(read_row(row, 0))
 }
 
 // One transaction of six bytes.
@@ -248,5 +264,5 @@ pub fn decode_transaction(
     if refusal != 0 {
         return DecodedTransaction::Refused(refusal);
     }
-    DecodedTransaction::Decoded(transaction_of(six_at(transaction, 0)))
+    DecodedTransaction::Decoded(read_transaction(transaction, 0))
 }

@@ -5,7 +5,7 @@ use mathlib.Core.List.{List, [], _∷_, _++_}
 use Prim.Native.Nat.{ℕ}
 use lib.Dec.{eqb}
 use lib.IntN.{ℤ, pos, _+ℤ_, +ℤ-assoc, +ℤ-comm}
-use Rattle.ints.specs.InsideEvery.{Every}
+use Rattle.ints.specs.Each.{Every}
 use Rattle.ints.specs.Sum.{Σℤ, only}
 use Rattle.ints.proofs.Adding.{owed-last}
 use Rattle.ints.proofs.Gather.{Σ-keep, every-last}

@@ -7,7 +7,7 @@ use Prim.Native.Nat.{ℕ, zero, suc, _<_}
 use native.Mathlib.Omega.{arith}
 use lib.Dec.{eqb}
 use lib.IntN.{ℤ, pos, negsuc, negℤ, _+ℤ_, _-ℤ_, _*ℤ_, +ℤ-idl, +ℤ-idr, +ℤ-comm, negℤ-+ℤ, negℤ-negℤ}
-use Rattle.ints.specs.InsideEvery.{Every}
+use Rattle.ints.specs.Each.{Every}
 use Rattle.ints.specs.Refusal.{pick}
 use Rattle.ints.specs.Sum.{Σℤ, sumTo, only}
 use Rattle.ints.proofs.Diff.{_⊖_, ⊖-laws, ⊖-eq, ind2, ind3}

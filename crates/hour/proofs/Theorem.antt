@@ -7,7 +7,8 @@ use native.Mathlib.Nat.{one-mul}
 use native.Mathlib.Omega.{arith}
 use lib.Dec.{eqb}
 use lib.IntN.{ℤ, pos, negℤ, _+ℤ_, _-ℤ_, _*ℤ_, +ℤ-idl}
-use Rattle.ints.specs.InsideEvery.{Every, owed}
+use Rattle.ints.specs.Each.{Every}
+use Rattle.ints.specs.InsideEvery.{owed}
 use Rattle.ints.specs.Refusal.{pick}
 use Rattle.ints.specs.Sum.{Σℤ, sumTo, only}
 use Rattle.ints.proofs.Gather.{every-map, Σ-minus, Σ-only-mul, Σ-only-scale, sumTo-minus, gather, gather-pairs}

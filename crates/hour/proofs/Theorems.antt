@@ -7,7 +7,8 @@ use native.Mathlib.Omega.{arith}
 use lib.Dec.{eqb, lit≤}
 use lib.IntN.{ℤ, pos, _+ℤ_, _*ℤ_}
 use lib.ListN.{length}
-use Rattle.ints.specs.InsideEvery.{Every, owed}
+use Rattle.ints.specs.Each.{Every}
+use Rattle.ints.specs.InsideEvery.{owed}
 use Rattle.ints.specs.InsideRange.{Within, InRange}
 use Rattle.ints.specs.Refusal.{pick}
 use Rattle.ints.specs.Sum.{Σℤ, sumTo, only, sum}

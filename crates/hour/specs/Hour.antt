@@ -1,7 +1,7 @@
 -- An hour (document 01, "Charges"): its prices, rows and transactions as numbers, whatever they were read from, and the positions that the tariff adds up.
 -- Assumes nothing.
 use mathlib.Core.Bool.{Bool, _||_}
-use mathlib.Core.List.{List, map}
+use mathlib.Core.List.{List, map, _++_}
 use Prim.Native.Nat.{ℕ, _*_}
 use lib.Dec.{eqb}
 use lib.IntN.{ℤ}
@@ -55,6 +55,10 @@ pub record Hour : Type 0 where
   pub rows : List Row
   -- "A transaction (market, interval, participant, source, sink, kW)"
   pub transactions : List Transaction
+
+-- all its prices: "congestion day-ahead for each location, congestion real time interval by interval, then loss the same way"
+abbrev pub allPrices : Hour → List ℤ
+allPrices hour = hour .congestionAhead ++ (hour .congestionReal ++ (hour .lossAhead ++ hour .lossReal))
 
 -- ---- "Congestion and loss use the same rule with different price lists."
 

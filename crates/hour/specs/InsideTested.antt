@@ -3,7 +3,7 @@ use mathlib.Core.Path.{_≡_}
 use mathlib.Core.Logic.{_⊎_}
 use Prim.Native.Nat.{ℕ, _*_, _≤_, _<_}
 use lib.ListN.{length}
-use Rattle.ints.specs.InsideEvery.{Every}
+use Rattle.ints.specs.Each.{Every}
 use Rattle.ints.specs.InsideRange.{InRange}
 use Rattle.hour.specs.Hour.{Hour}
 use Rattle.hour.specs.declared.Row.{Row}

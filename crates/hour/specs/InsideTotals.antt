@@ -6,7 +6,8 @@ use Prim.Native.Nat.{ℕ}
 use lib.IntN.{ℤ, pos, _+ℤ_, _-ℤ_}
 use lib.ListN.{length}
 use lib.Signed.{leZ}
-use Rattle.ints.specs.InsideEvery.{Every, owed}
+use Rattle.ints.specs.Each.{Every}
+use Rattle.ints.specs.InsideEvery.{owed}
 use Rattle.ints.specs.Table.{_at_, tab}
 use Rattle.units.specs.Units.{centsOf}
 use Rattle.hour.specs.Charges.{charge}

@@ -1,7 +1,7 @@
 -- What is refused of an hour, and in which order (document 01, "Refusal numbers", and the lines of "Order for an hour" that speak of numbers). What a file adds to it is
 -- in crate `exercise`, specs/Order. Assumes nothing.
 use mathlib.Core.Bool.{Bool, _||_, _&&_}
-use mathlib.Core.List.{List, _++_}
+use mathlib.Core.List.{List}
 use Prim.Native.Nat.{ℕ}
 use lib.Dec.{ltb, leb, eqb}
 use lib.IntN.{ℤ, pos, negℤ, natAbs}
@@ -11,7 +11,7 @@ use Rattle.ints.specs.Refusal.{pick, unless}
 use Rattle.ints.specs.Table.{all}
 use Rattle.ints.specs.Turn.{_then_, inOrder}
 use Rattle.split.specs.Split.{total}
-use Rattle.hour.specs.Hour.{dayAhead, realTime, import, incrementOffer, Hour}
+use Rattle.hour.specs.Hour.{dayAhead, realTime, import, incrementOffer, Hour, allPrices}
 use Rattle.hour.specs.Surplus.{surplus, shares}
 use Rattle.hour.specs.declared.Row.{Row}
 use Rattle.hour.specs.declared.Transaction.{Transaction}
@@ -29,7 +29,7 @@ abbrev pub isPrice : ℤ → Bool
 isPrice price = between (negℤ (pos 5000000)) (pos 5000000) price
 
 unfoldable pub pricesRefusal : Hour → ℕ
-pricesRefusal hour = unless (all isPrice (hour .congestionAhead ++ (hour .congestionReal ++ (hour .lossAhead ++ hour .lossReal)))) 2 0
+pricesRefusal hour = unless (all isPrice (allPrices hour)) 2 0
 
 -- ---- "rows in turn (4; 3 participant, location; 2; 9)"
 

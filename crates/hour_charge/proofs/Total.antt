@@ -4,7 +4,8 @@ use mathlib.Core.List.{List, map}
 use Prim.Native.Nat.{ℕ, _<_}
 use lib.Dec.{eqb}
 use lib.IntN.{ℤ, pos, _+ℤ_, _-ℤ_, _*ℤ_}
-use Rattle.ints.specs.InsideEvery.{Every, owed}
+use Rattle.ints.specs.Each.{Every}
+use Rattle.ints.specs.InsideEvery.{owed}
 use Rattle.ints.specs.Refusal.{pick}
 use Rattle.ints.specs.Table.{_at_, tab}
 use Rattle.ints.proofs.Adding.{owed-ext}

@@ -1,6 +1,7 @@
-// What is refused of a row, and of a transaction (document 01, "Order for an hour").
+// What is refused of a row, and of a transaction (document 01, "Order for an hour"). Their numbers are wide here, so that those of a file and those that somebody hands
+// over are tested alike.
 ghost use mathlib.Core.Path.{_≡_};
-ghost use Rattle.hour.specs.Order.{hasKind, hasInterval, packedRowRefusal, transactionRefusal};
+ghost use Rattle.hour.specs.Order.{hasKind, hasInterval, rowRefusal, packedRowRefusal, transactionRefusal};
 use hour::DAY_AHEAD;
 use hour::IMPORT;
 use hour::INCREMENT_OFFER;
@@ -9,53 +10,113 @@ use hour::Row;
 use hour::Transaction;
 
 // Whether the market has the kind, and the interval. A market read from a file is one of the two, so that the first test costs nothing there.
-fn has_kind(market: u8, kind: u8) -> bool
+fn has_kind(market: u64, kind: u64) -> bool
     ensures { λ r. ⌜ r ≡ hasKind market kind ⌝ }
 {
-    if market > REAL_TIME {
+    if market > REAL_TIME as u64 {
         return false;
     }
-    if market == DAY_AHEAD {
-        kind <= INCREMENT_OFFER
+    if market == DAY_AHEAD as u64 {
+        kind <= INCREMENT_OFFER as u64
     } else {
-        kind <= IMPORT
+        kind <= IMPORT as u64
     }
 }
 
-fn has_interval(market: u8, interval: u8) -> bool
+fn has_interval(market: u64, interval: u64) -> bool
     ensures { λ r. ⌜ r ≡ hasInterval market interval ⌝ }
 {
-    if market > REAL_TIME {
+    if market > REAL_TIME as u64 {
         return false;
     }
-    if market == DAY_AHEAD {
+    if market == DAY_AHEAD as u64 {
         interval == 0
     } else {
         interval <= 11
     }
 }
 
+// The refusal of a row of these numbers, 0 where there is none.
+pub fn row_numbers_refusal(
+    participants: u64,
+    locations: u64,
+    market: u64,
+    kind: u64,
+    interval: u64,
+    participant: u64,
+    location: u64,
+    kw: u64,
+) -> u32
+    ensures { λ r. ⌜ r ≡ rowRefusal participants locations (record { market = market; kind = kind; interval = interval; participant = participant; location = location; kw = record { 0 = kw } }) ⌝ }
+{
+    if !has_kind(market, kind) {
+        return 4;
+    }
+    if !has_interval(market, interval) {
+        return 4;
+    }
+    if participant >= participants {
+        return 3;
+    }
+    if location >= locations {
+        return 3;
+    }
+    if kw > 20_000_000 {
+        return 2;
+    }
+    0
+}
+
 // The refusal of a row with its spare bits, 0 where there is none.
 pub fn packed_row_refusal(participants: usize, locations: usize, row: Row, spare: u64) -> u32
     ensures { λ r. ⌜ r ≡ packedRowRefusal participants locations row spare ⌝ }
 {
-    if !has_kind(row.market, row.kind) {
-        return 4;
-    }
-    if !has_interval(row.market, row.interval) {
-        return 4;
-    }
-    if row.participant as usize >= participants {
-        return 3;
-    }
-    if row.location as usize >= locations {
-        return 3;
-    }
-    if row.kw.0 > 20_000_000 {
-        return 2;
+    let refusal = row_numbers_refusal(
+        participants as u64,
+        locations as u64,
+        row.market as u64,
+        row.kind as u64,
+        row.interval as u64,
+        row.participant as u64,
+        row.location as u64,
+        row.kw.0 as u64,
+    );
+    if refusal != 0 {
+        return refusal;
     }
     if spare != 0 {
         return 9;
+    }
+    0
+}
+
+// The refusal of a transaction of these numbers, 0 where there is none.
+pub fn transaction_numbers_refusal(
+    participants: u64,
+    locations: u64,
+    market: u64,
+    interval: u64,
+    participant: u64,
+    source: u64,
+    sink: u64,
+    kw: u64,
+) -> u32
+    ensures { λ r. ⌜ r ≡ transactionRefusal participants locations (record { market = market; interval = interval; participant = participant; source = source; sink = sink; kw = record { 0 = kw } }) ⌝ }
+{
+    if !has_interval(market, interval) {
+        return 4;
+    }
+    if participants <= participant {
+        return 3;
+    }
+    if source >= locations {
+        return 3;
+    }
+    if sink >= locations {
+        return 3;
+    }
+    if 20_000_000 < kw {
+        return 2;
     }
     0
 }
@@ -64,20 +125,14 @@ pub fn packed_row_refusal(participants: usize, locations: usize, row: Row, spare
 pub fn transaction_refusal(participants: usize, locations: usize, transaction: Transaction) -> u32
     ensures { λ r. ⌜ r ≡ transactionRefusal participants locations transaction ⌝ }
 {
-    if !has_interval(transaction.market, transaction.interval) {
-        return 4;
-    }
-    if transaction.participant as usize >= participants {
-        return 3;
-    }
-    if transaction.source as usize >= locations {
-        return 3;
-    }
-    if transaction.sink as usize >= locations {
-        return 3;
-    }
-    if transaction.kw.0 > 20_000_000 {
-        return 2;
-    }
-    0
+    transaction_numbers_refusal(
+        participants as u64,
+        locations as u64,
+        transaction.market as u64,
+        transaction.interval as u64,
+        transaction.participant as u64,
+        transaction.source as u64,
+        transaction.sink as u64,
+        transaction.kw.0 as u64,
+    )
 }

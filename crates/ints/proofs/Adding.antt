@@ -11,7 +11,8 @@ use lib.IntN.{ℤ, pos, _+ℤ_, +ℤ-idr, +ℤ-assoc}
 use lib.ListN.{length, set, length-set}
 use lib.Seq.{getD-set-same, getD-set-other}
 use borrow.Author.Tests.{eqb-true, eqb-false}
-use Rattle.ints.specs.InsideEvery.{Every, owed, Added}
+use Rattle.ints.specs.Each.{Every}
+use Rattle.ints.specs.InsideEvery.{owed, Added}
 use Rattle.ints.specs.InsideRange.{Within, InRange}
 use Rattle.ints.specs.Sum.{Σℤ, only}
 use Rattle.ints.specs.Table.{_at_, tab}

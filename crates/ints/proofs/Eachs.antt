@@ -9,7 +9,7 @@ use native.Mathlib.Numerals.{add-one}
 use native.Mathlib.Omega.{arith}
 use lib.ListN.{length, getD}
 use borrow.Author.Tests.{ne-eqb}
-use Rattle.ints.specs.Each.{allTo}
+use Rattle.ints.specs.Each.{allTo, Every}
 use Rattle.ints.specs.Refusal.{pick, unless}
 use Rattle.ints.specs.Table.{tab, all}
 use Rattle.ints.specs.Turn.{_then_, inTurn}
@@ -75,3 +75,10 @@ turn-all t g k (suc n) =
       where
         some : suc k ≡ 0 → ⊥
         some e = omega arith
+
+-- ---- what a test that all pass tells of each
+
+pub all-every : {A : Type 0} (t : A → Bool) (P : A → Type 0) → ((x : A) → t x ≡ true → P x) → (xs : List A) → all t xs ≡ true → Every P xs
+unfolding all
+all-every t P h [] e = tt
+all-every t P h (x ∷ xs) e = let both = and-true (t x) (all t xs) e in (h x (both .0), all-every t P h xs (both .1))

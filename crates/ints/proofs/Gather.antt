@@ -1,16 +1,19 @@
 -- Sums over a list and sums over places: added up place by place, or element by element. Assumes nothing.
-use mathlib.Core.Path.{_≡_, refl, sym, ap, ap₂, _∙_}
+use mathlib.Core.Path.{_≡_, refl, sym, ap, ap₂, _∙_, subst}
 use mathlib.Core.Bool.{Bool, true, false, _&&_, and-true, and-false}
 use mathlib.Core.List.{List, [], _∷_, _++_, map}
 use Prim.Native.Nat.{ℕ, zero, suc, _<_}
 use native.Mathlib.Omega.{arith}
 use lib.Dec.{eqb}
+use lib.ListN.{length, getD}
 use lib.IntN.{ℤ, negℤ, _+ℤ_, _-ℤ_, _*ℤ_, +ℤ-idl, zero-*ℤ, *ℤ-zero, *ℤ-comm, negℤ-+ℤ}
 use borrow.Author.Tests.{eq-eqb, ne-eqb}
-use Rattle.ints.specs.InsideEvery.{Every, keep}
+use Rattle.ints.specs.Each.{Every}
+use Rattle.ints.specs.InsideEvery.{keep}
 use Rattle.ints.specs.Refusal.{pick}
 use Rattle.ints.specs.Sum.{Σℤ, sumTo, only}
 use Rattle.ints.specs.Table.{tab}
+use Rattle.ints.proofs.Tables.{length-tab, getD-tab}
 use Rattle.ints.proofs.Sums.{Σ-plus, Σ-ext, Σ-scale, sumTo-nil, sumTo-only, sumTo-plus, sumTo-neg, sumTo-ext}
 
 -- ---- a list's elements
@@ -125,3 +128,21 @@ keep-map g t (x ∷ xs) = by (t (g x)) (keep-map g t xs)
     by : (b : Bool) → keep t (map g xs) ≡ map g (keep (λ x. t (g x)) xs) → pick b (g x ∷ keep t (map g xs)) (keep t (map g xs)) ≡ map g (pick b (x ∷ keep (λ x. t (g x)) xs) (keep (λ x. t (g x)) xs))
     by true e = ap (λ ys. g x ∷ ys) e
     by false e = e
+
+-- what holds of each holds at each place
+pub every-at : {A : Type 0} (P : A → Type 0) (d : A) → P d → (xs : List A) → Every P xs → (i : ℕ) → P (getD xs i d)
+every-at P d h [] e i = h
+every-at P d h (x ∷ xs) e zero = e .0
+every-at P d h (x ∷ xs) e (suc i) = every-at P d h xs (e .1) i
+
+pub tab-every : {A : Type 0} (P : A → Type 0) (f : ℕ → A) (n : ℕ) → Every P (tab f n) → (i : ℕ) → i < n → P (f i)
+tab-every {A} P f n e i h = by (tab f n) e i (omega (arith, length-tab f n)) (f i) (getD-tab f (f i) n i h)
+  where
+    by : (xs : List A) → Every P xs → (i : ℕ) → i < length xs → (y : A) → getD xs i y ≡ y → P y
+    by [] e i h y g = absurd (omega arith)
+    by (x ∷ xs) e zero h y g = subst P g (e .0)
+    by (x ∷ xs) e (suc i) h y g = by xs (e .1) i (omega arith) y g
+
+pub every-append : {A : Type 0} (P : A → Type 0) (xs ys : List A) → Every P xs → Every P ys → Every P (xs ++ ys)
+every-append P [] ys e f = f
+every-append P (x ∷ xs) ys e f = (e .0, every-append P xs ys (e .1) f)

@@ -6,6 +6,8 @@ pub mod Tests
 pub mod Sums
 pub mod Counts
 pub mod Tables
+pub mod Stores
+pub mod Twos
 pub mod Refusals
 pub mod Unique
 pub mod Turns

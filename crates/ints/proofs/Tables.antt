@@ -105,3 +105,9 @@ tab-parts f m zero = let here : m + 0 ≡ m = omega arith in ap (tab f) here ∙
 tab-parts f m (suc n) =
     let here : m + suc n ≡ suc (m + n) = omega arith in
     ap (tab f) here ∙ ap (λ xs. xs ++ (f (m + n) ∷ [])) (tab-parts f m n) ∙ append-assoc (tab f m) (tab (λ i. f (m + i)) n) (f (m + n) ∷ [])
+
+-- .. and its first element apart
+pub tab-front : {A : Type 0} (f : ℕ → A) (n : ℕ) → tab f (suc n) ≡ f 0 ∷ tab (λ i. f (suc i)) n
+unfolding tab
+tab-front f zero = refl
+tab-front {A} f (suc n) = ap (λ (t : List A). t ++ (f (suc n) ∷ [])) (tab-front f n)

@@ -1,14 +1,15 @@
 -- What a test of a signed number tells of its size. A signed local holds bits, so a test of it speaks of `toZ w (ofZ w x)`, which is x. Assumes nothing.
-use mathlib.Core.Path.{_≡_, refl, sym, subst}
-use mathlib.Core.Bool.{true, false}
-use Prim.Native.Nat.{ℕ, zero, suc, _≤_, _<_}
+use mathlib.Core.Path.{_≡_, refl, sym, ap, ap₂, subst}
+use mathlib.Core.Bool.{Bool, true, false, _&&_}
+use Prim.Native.Nat.{ℕ, zero, suc, _^_, _≤_, _<_}
 use native.Mathlib.Omega.{arith}
-use lib.Dec.{T, ltb→lt, leb→le}
+use lib.Dec.{T, leb, ltb→lt, leb→le}
 use lib.IntN.{ℤ, pos, negsuc, negℤ, natAbs}
-use lib.Signed.{leZ}
-use mir.Syntax.{Width}
-use mir.Val.{SFits, toZ, ofZ}
+use lib.Signed.{leZ, nonNeg}
+use mir.Syntax.{Width, w64}
+use mir.Val.{SFits, Fits, toZ, ofZ}
 use mir.Facts.{toZ-ofZ}
+use borrow.Author.Tests.{le-leb}
 use Rattle.ints.specs.Number.{below0, between}
 use Rattle.ints.proofs.Bools.{and-true}
 
@@ -34,6 +35,36 @@ pub between-natural : (x : ℤ) (k : ℕ) → between (pos 0) (pos k) x ≡ true
 between-natural x k e =
     let b = and-true (leZ (pos 0) x) (leZ x (pos k)) e in
     natural-of-range x k (subst T (sym (b .0)) tt) (subst T (sym (b .1)) tt)
+
+-- low to high, of naturals: a count
+pub record Counted (low high : ℕ) (x : ℤ) : Type 0 where
+  pub is : x ≡ pos (natAbs x)
+  pub some : low ≤ natAbs x
+  pub few : natAbs x ≤ high
+
+pub counted : (low high : ℕ) (x : ℤ) → between (pos low) (pos high) x ≡ true → Counted low high x
+counted low high (pos n) e =
+    let b = and-true (leZ (pos low) (pos n)) (leZ (pos n) (pos high)) e in
+    record { is = refl; some = leb→le low n (subst T (sym (b .0)) tt); few = leb→le n high (subst T (sym (b .1)) tt) }
+counted low high (negsuc n) e = absurd (subst T (sym e) tt)
+
+pub count-taken : (low high n : ℕ) → low ≤ n → n ≤ high → between (pos low) (pos high) (pos n) ≡ true
+count-taken low high n l h = ap₂ _&&_ (le-leb low n l) (le-leb n high h)
+
+-- from 0 on there is nothing to test below
+pub count-from-0 : (high n : ℕ) → between (pos 0) (pos high) (pos n) ≡ leb n high
+count-from-0 high n = ap (λ (b : Bool). b && leb n high) (le-leb 0 n (omega arith))
+
+-- such a count as an unsigned number
+pub count-cast : {low high : ℕ} {x : ℤ} → SFits w64 x → Counted low high x → high < 2 ^ 64 → T (nonNeg (toZ w64 (ofZ w64 x))) × Fits w64 (natAbs (toZ w64 (ofZ w64 x)))
+count-cast {low} {high} {x} f k h = rw (toZ-ofZ f) (subst (λ (z : ℤ). T (nonNeg z)) (sym (k .is)) tt, record { fits = omega (arith, k .few) })
+
+pub count-within : {low high : ℕ} {x : ℤ} → SFits w64 x → Counted low high x → (low ≤ natAbs (toZ w64 (ofZ w64 x))) × (natAbs (toZ w64 (ofZ w64 x)) ≤ high)
+count-within f k = rw (toZ-ofZ f) (k .some, k .few)
+
+-- .. is itself
+pub count-is : {low high : ℕ} {x : ℤ} → SFits w64 x → Counted low high x → pos (natAbs (toZ w64 (ofZ w64 x))) ≡ x
+count-is f k = rw (toZ-ofZ f) (sym (k .is))
 
 -- ---- the sign
 

@@ -3,13 +3,14 @@ use mathlib.Core.Path.{_≡_, refl, sym, ap, ap₂, _∙_}
 use mathlib.Core.Logic.{⊎-elim}
 use mathlib.Core.Bool.{Bool, true, false}
 use mathlib.Core.List.{List, [], _∷_, _++_}
-use Prim.Native.Nat.{ℕ, zero, suc, _+_, _<_}
+use Prim.Native.Nat.{ℕ, zero, suc, _+_, _≤_, _<_}
 use native.Mathlib.Nat.{eq-or-lt-of-le, le-of-suc-le-suc, not-suc-le-zero}
 use native.Mathlib.Numerals.{add-one}
 use native.Mathlib.Omega.{arith}
 use lib.Dec.{eqb}
 use lib.ListN.{length}
 use borrow.Author.Tests.{eq-eqb, ne-eqb, eqb-true, eqb-false}
+use Rattle.ints.specs.Each.{Every}
 use Rattle.ints.specs.Refusal.{pick}
 use Rattle.ints.specs.Table.{tab}
 use Rattle.ints.specs.Turn.{_then_, inTurn, inOrder}
@@ -68,9 +69,15 @@ module _ (f : ℕ → ℕ) where
       let both = then-none (inTurn f n) (f n) e in
       ⊎-elim (λ q. ap f q ∙ both .1) (λ l. turn-none n (both .0) i l) (eq-or-lt-of-le (le-of-suc-le-suc h))
 
+-- equal refusals
+pub turn-ext : (f g : ℕ → ℕ) (n : ℕ) → ((i : ℕ) → i < n → f i ≡ g i) → inTurn f n ≡ inTurn g n
+unfolding inTurn
+turn-ext f g zero h = refl
+turn-ext f g (suc n) h = ap₂ (λ (a b : ℕ). a then b) (turn-ext f g n (λ i l. h i (omega arith))) (h n (omega arith))
+
 -- ---- in order, over a list
 
-then-nothing : (a : ℕ) → (a then 0) ≡ a
+pub then-nothing : (a : ℕ) → (a then 0) ≡ a
 then-nothing a = by (eqb a 0) refl
   where
     by : (b : Bool) → eqb a 0 ≡ b → pick b 0 a ≡ a
@@ -92,6 +99,18 @@ module _ {A : Type 0} (f : ℕ → A → ℕ) where
       let here : suc i + length ys ≡ i + suc (length ys) = omega arith in
       ap (λ (z : ℕ). f i y then z) (order-last (suc i) ys x ∙ ap (λ (k : ℕ). inOrder f (suc i) ys then f k x) here)
       ∙ then-assoc (f i y) (inOrder f (suc i) ys) (f (i + suc (length ys)) x)
+
+  -- equal refusals of each
+  pub order-ext : (g : ℕ → A → ℕ) (i : ℕ) (xs : List A) → ((k : ℕ) (x : A) → i ≤ k → k < i + length xs → f k x ≡ g k x) → inOrder f i xs ≡ inOrder g i xs
+  unfolding inOrder
+  order-ext g i [] h = refl
+  order-ext g i (x ∷ xs) h = ap₂ (λ (a b : ℕ). a then b) (h i x (omega arith) (omega arith)) (order-ext g (suc i) xs (λ k y l m. h k y (omega arith) (omega arith)))
+
+  -- no refusal: none of any
+  pub order-none : (P : A → Type 0) → ((k : ℕ) (x : A) → f k x ≡ 0 → P x) → (i : ℕ) (xs : List A) → inOrder f i xs ≡ 0 → Every P xs
+  unfolding inOrder
+  order-none P g i [] e = tt
+  order-none P g i (x ∷ xs) e = let both = then-none (f i x) (inOrder f (suc i) xs) e in (g i x (both .0), order-none P g (suc i) xs (both .1))
 
   -- a list by a rule, in order, is the rule in turn
   pub order-tab : (g : ℕ → A) (n : ℕ) → inOrder f 0 (tab g n) ≡ inTurn (λ k. f k (g k)) n

@@ -1,4 +1,4 @@
--- Lists of things: what holds of each, the chosen ones, and what those of one owner come to, as proofs hand them on. Assumes nothing.
+-- Lists of things: the chosen ones, and what those of one owner come to, as proofs hand them on. Assumes nothing.
 use mathlib.Core.Path.{_≡_}
 use mathlib.Core.Bool.{Bool}
 use mathlib.Core.List.{List, [], _∷_}
@@ -8,11 +8,6 @@ use lib.IntN.{ℤ, _+ℤ_}
 use Rattle.ints.specs.Refusal.{pick}
 use Rattle.ints.specs.Sum.{Σℤ, only}
 use Rattle.ints.specs.Table.{_at_}
-
--- P holds of each element
-abbrev pub Every : {A : Type 0} → (A → Type 0) → List A → Type 0
-Every P [] = Unit {0}
-Every P (x ∷ xs) = P x × Every P xs
 
 -- the elements that pass the test
 unfoldable pub keep : {A : Type 0} → (A → Bool) → List A → List A

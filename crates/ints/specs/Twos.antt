@@ -1,5 +1,5 @@
 -- Two's complement at a width. Assumes nothing.
-use Prim.Native.Nat.{ℕ, suc, _-_, _^_}
+use Prim.Native.Nat.{ℕ, suc, _-_, _^_, _<_}
 use lib.Dec.{ltb}
 use lib.IntN.{ℤ, pos, negsuc}
 use Rattle.ints.specs.Refusal.{pick}
@@ -12,3 +12,8 @@ twos width u = pick (ltb u (2 ^ (width - 1))) (pos u) (negsuc (2 ^ width - suc u
 abbrev pub bitsOf : ℕ → ℤ → ℕ
 bitsOf width (pos n) = n
 bitsOf width (negsuc n) = 2 ^ width - suc n
+
+-- a number that so many bits hold: -2 ^ (width - 1) to 2 ^ (width - 1) - 1
+abbrev pub InBits : ℕ → ℤ → Type 0
+InBits width (pos n) = n < 2 ^ (width - 1)
+InBits width (negsuc n) = n < 2 ^ (width - 1)

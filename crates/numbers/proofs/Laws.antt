@@ -1,6 +1,6 @@
 -- Laws of numbers in bytes: the round trips, a write is `set`, a list is filled from the front. Assumes nothing.
 use mathlib.Core.Path.{_≡_, refl, sym, ap, ap₂, _∙_, subst}
-use mathlib.Core.Bool.{Bool, true, false}
+use mathlib.Core.Bool.{Bool}
 use mathlib.Core.List.{List, [], _∷_, _++_, append-assoc, append-nil}
 use Prim.Native.Nat.{ℕ, zero, suc, _+_, _*_, _/_, _%_, _-_, _^_, _≤_, _<_}
 use native.Mathlib.Decide.{decLt, ℕ-discrete}
@@ -9,18 +9,19 @@ use native.Mathlib.Numerals.{add-one}
 use native.Mathlib.Omega.{arith}
 use lib.Dec.{T, ltb}
 use lib.IntN.{ℤ, pos, negsuc}
-use lib.ListN.{length, getD, take, drop, set, length-set, length-append, length-drop, take-append-drop, drop-of-length-le}
+use lib.ListN.{length, take, drop, set, length-set, length-append, length-drop, take-append-drop, drop-of-length-le}
 use lib.Seq.{take-at, drop-at, take-all, take-add, take-suc, drop-drop, length-take-le, take-append-le, drop-append-le, drop-append-add, ext-getD, getD-take, getD-drop, getD-set-same, getD-set-other}
 use mir.Syntax.{w64}
 use mir.Val.{SFits}
-use borrow.Author.Tests.{lt-ltb, le-ltb}
+use borrow.Author.Tests.{lt-ltb}
 use Rattle.ints.specs.InsideRange.{InRange}
 use Rattle.ints.specs.Refusal.{pick}
 use Rattle.ints.specs.Table.{_at_, tab}
-use Rattle.ints.specs.Twos.{twos, bitsOf}
+use Rattle.ints.specs.Twos.{twos, bitsOf, InBits}
 use Rattle.ints.proofs.Sizes.{w-fits}
 use Rattle.ints.proofs.Tables.{length-tab, getD-tab}
-use Rattle.numbers.specs.Bytes.{lowestFirst, bytesOf, number, eight, numberAt, numbers, encoded}
+use Rattle.ints.proofs.Twos.{bits-twos, twos-bits, bits-below}
+use Rattle.numbers.specs.Bytes.{Bytes, lowestFirst, bytesOf, number, eight, numberAt, numbers, encoded}
 use Rattle.numbers.specs.Inside.{withNumber}
 
 -- ---- one number
@@ -37,26 +38,15 @@ bytes-back zero u h = omega arith
 bytes-back (suc n) u h =
     ap (λ (q : ℕ). u % 256 + 256 * q) (bytes-back n (u / 256) (div-lt-iff-lt-mul (omega arith) .1 (omega (arith, pow-suc 256 n)))) ∙ mod-add-div u 256
 
-bits-fit : (z : ℤ) → SFits w64 z → bitsOf 64 z < 256 ^ 8
-bits-fit (pos n) f = omega (arith, f .sfits)
-bits-fit (negsuc n) f = omega arith
-
-bits-back : (z : ℤ) → SFits w64 z → twos 64 (bitsOf 64 z) ≡ z
-bits-back (pos n) f = simp (lt-ltb n (2 ^ 63) (f .sfits))
-bits-back (negsuc n) f =
-    let h : n < 2 ^ 63 = f .sfits in
-    let g : 2 ^ 63 ≤ 2 ^ 64 - suc n = omega arith in
-    let e : 2 ^ 64 - suc (2 ^ 64 - suc n) ≡ n = omega arith in
-    simp (le-ltb (2 ^ 64 - suc n) (2 ^ 63) g) (ap negsuc e)
+holds : (z : ℤ) → SFits w64 z → InBits 64 z
+holds (pos n) f = f .sfits
+holds (negsuc n) f = f .sfits
 
 -- the bytes of a number stand for the number
 pub number-back : (z : ℤ) → SFits w64 z → number (eight z) ≡ z
-number-back z f = ap (twos 64) (bytes-back 8 (bitsOf 64 z) (bits-fit z f)) ∙ bits-back z f
+number-back z f = ap (twos 64) (bytes-back 8 (bitsOf 64 z) (omega (arith, bits-below 64 refl z (holds z f)))) ∙ twos-bits 64 refl z (holds z f)
 
 -- bytes stand for a number whose bytes they are
-pub record Bytes (s : List ℕ) : Type 0 where
-  pub each : (i : ℕ) → i < length s → getD s i 0 < 256
-
 bytes-of : (s : List ℕ) → Bytes s → bytesOf (length s) (lowestFirst s) ≡ s
 unfolding bytesOf lowestFirst
 bytes-of [] h = refl
@@ -70,21 +60,14 @@ bytes-of (b ∷ bs) h =
     others : b < 256 → (b + 256 * lowestFirst bs) / 256 ≡ lowestFirst bs
     others low = omega arith
 
-lowest-fits : (s : List ℕ) → Bytes s → lowestFirst s < 256 ^ length s
+pub lowest-fits : (s : List ℕ) → Bytes s → lowestFirst s < 256 ^ length s
 unfolding lowestFirst
 lowest-fits [] h = omega arith
 lowest-fits (b ∷ bs) h = omega (arith, h .each 0 (omega arith), lowest-fits bs (record { each = λ i l. h .each (suc i) (omega arith) }), pow-suc 256 (length bs))
 
-bits-of : (u : ℕ) → u < 2 ^ 64 → bitsOf 64 (twos 64 u) ≡ u
-bits-of u h = half (ltb u (2 ^ 63))
-  where
-    half : (b : Bool) → bitsOf 64 (pick b (pos u) (negsuc (2 ^ 64 - suc u))) ≡ u
-    half true = refl
-    half false = omega arith
-
 pub eight-back : (s : List ℕ) → length s ≡ 8 → Bytes s → eight (number s) ≡ s
 eight-back s e h =
-    ap (bytesOf 8) (bits-of (lowestFirst s) (omega (arith, lowest-fits s h, ap (λ (n : ℕ). 256 ^ n) e)))
+    ap (bytesOf 8) (bits-twos 64 (lowestFirst s) (omega (arith, lowest-fits s h, ap (λ (n : ℕ). 256 ^ n) e)))
     ∙ ap (λ (n : ℕ). bytesOf n (lowestFirst s)) (sym e) ∙ bytes-of s h
 
 -- ---- a list
@@ -103,17 +86,17 @@ unfolding encoded
 length-encoded [] = refl
 length-encoded (z ∷ l) = omega (arith, length-append (eight z) (encoded l), length-eight z, length-encoded l)
 
-encoded-append : (l m : List ℤ) → encoded (l ++ m) ≡ encoded l ++ encoded m
+pub encoded-append : (l m : List ℤ) → encoded (l ++ m) ≡ encoded l ++ encoded m
 unfolding encoded
 encoded-append [] m = refl
 encoded-append (z ∷ l) m = ap (λ (t : List ℕ). eight z ++ t) (encoded-append l m) ∙ sym (append-assoc (eight z) (encoded l) (encoded m))
 
-encoded-one : (z : ℤ) → encoded (z ∷ []) ≡ eight z
+pub encoded-one : (z : ℤ) → encoded (z ∷ []) ≡ eight z
 unfolding encoded
 encoded-one z = append-nil (eight z)
 
 -- the number at i of the bytes of a list
-encoded-at : (l : List ℤ) → ((i : ℕ) → SFits w64 (l at i)) → (i : ℕ) → i < length l → numberAt (encoded l) i ≡ l at i
+pub encoded-at : (l : List ℤ) → ((i : ℕ) → SFits w64 (l at i)) → (i : ℕ) → i < length l → numberAt (encoded l) i ≡ l at i
 unfolding encoded
 encoded-at [] f i h = absurd (omega arith)
 encoded-at (z ∷ l) f zero h = ap number (take-at (eight z) (encoded l) 8 (length-eight z)) ∙ number-back z (f 0)
@@ -134,7 +117,7 @@ numbers-encoded l f =
 pub read-back : {l : List ℤ} {k : ℕ} → InRange l k → T (ltb k (2 ^ 63)) → numbers (encoded l) ≡ l
 read-back {l} r t = numbers-encoded l (λ i. w-fits (r .each i) t)
 
-part-bytes : (s : List ℕ) (k n : ℕ) → k + n ≤ length s → Bytes s → Bytes (take n (drop k s))
+pub part-bytes : (s : List ℕ) (k n : ℕ) → k + n ≤ length s → Bytes s → Bytes (take n (drop k s))
 part-bytes s k n h b =
     let e : length (take n (drop k s)) ≡ n = length-take-le n (drop k s) (omega (arith, length-drop k s)) in
     record { each = λ i l. subst (λ (x : ℕ). x < 256) (sym (getD-take n (drop k s) i 0 (omega arith) ∙ getD-drop k s i 0)) (b .each (k + i) (omega arith)) }
@@ -152,6 +135,15 @@ encoded-front s b (suc n) l =
 -- the bytes of the numbers of bytes are the bytes
 pub encoded-numbers : (s : List ℕ) → length s % 8 ≡ 0 → Bytes s → encoded (numbers s) ≡ s
 encoded-numbers s e b = encoded-front s b (length s / 8) (omega arith) ∙ take-all (8 * (length s / 8)) s (omega arith)
+
+-- a number whose 64 bits are fewer than 2 ^ 63 is that natural
+pub at-natural : (s : List ℕ) → Bytes s → (k : ℕ) → 8 * k + 8 ≤ length s → bitsOf 64 (numberAt s k) < 2 ^ 63 → pos (bitsOf 64 (numberAt s k)) ≡ numberAt s k
+at-natural s b k h small =
+    let own = take 8 (drop (8 * k) s) in
+    let long : length own ≡ 8 = length-take-le 8 (drop (8 * k) s) (omega (arith, length-drop (8 * k) s)) in
+    let fits : lowestFirst own < 2 ^ 64 = omega (arith, lowest-fits own (part-bytes s (8 * k) 8 h b), ap (λ (n : ℕ). 256 ^ n) long) in
+    let bits : bitsOf 64 (numberAt s k) ≡ lowestFirst own = bits-twos 64 (lowestFirst own) fits in
+    ap pos bits ∙ sym (ap (λ (t : Bool). pick t (pos (lowestFirst own)) (negsuc (2 ^ 64 - suc (lowestFirst own)))) (lt-ltb (lowestFirst own) (2 ^ 63) (omega (arith, bits))))
 
 -- ---- a write
 

@@ -1,11 +1,15 @@
 -- A list of numbers in bytes (document 01, "The exercise file"): "A list crosses as eight bytes a number, two's complement, lowest byte first".
 -- Assumes nothing.
 use mathlib.Core.List.{List, [], _∷_, _++_}
-use Prim.Native.Nat.{ℕ, zero, suc, _+_, _*_, _/_, _%_}
+use Prim.Native.Nat.{ℕ, zero, suc, _+_, _*_, _/_, _%_, _<_}
 use lib.IntN.{ℤ}
-use lib.ListN.{length, take, drop}
+use lib.ListN.{length, getD, take, drop}
 use Rattle.ints.specs.Table.{tab}
 use Rattle.ints.specs.Twos.{twos, bitsOf}
+
+-- what a slice of bytes holds: each below 256
+pub record Bytes (s : List ℕ) : Type 0 where
+  pub each : (i : ℕ) → i < length s → getD s i 0 < 256
 
 -- the number that bytes stand for, the lowest byte first
 unfoldable pub lowestFirst : List ℕ → ℕ

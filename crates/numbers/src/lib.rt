@@ -64,15 +64,23 @@ fn to_word(z: i64) -> u64
 }
 
 // The number at i of a list.
-fn number_at(s: &[u8], i: usize) -> i64
+pub fn number_at(s: &[u8], i: usize) -> i64
     requires { ⌜ 8 * i + 8 ≤ length (now s) ⌝ }
     ensures { λ r. ⌜ r ≡ numberAt (now (s .entry)) i ⌝ }
 {
     from_word(word_from(s, 8 * i))
 }
 
+// Its 64 bits.
+pub fn word_at(s: &[u8], i: usize) -> u64
+    requires { ⌜ 8 * i + 8 ≤ length (now s) ⌝ }
+    ensures { λ r. ⌜ r ≡ bitsOf 64 (numberAt (now (s .entry)) i) ⌝ }
+{
+    word_from(s, 8 * i)
+}
+
 // The number at i of a list becomes z.
-fn put_number(out: &mut [u8], i: usize, z: i64)
+pub fn put_number(out: &mut [u8], i: usize, z: i64)
     requires { ⌜ 8 * i + 8 ≤ length (now out) ⌝ }
     ensures { λ _. ⌜ now (out .exit) ≡ withNumber (now (out .entry)) i z ⌝ }
 {

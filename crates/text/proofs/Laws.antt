@@ -16,14 +16,11 @@ use mir.Val.{Fits, SFits}
 use borrow.Author.Tests.{lt-ltb, le-ltb}
 use Rattle.ints.specs.Number.{below0}
 use Rattle.ints.specs.Refusal.{pick}
+use Rattle.ints.proofs.Stores.{sets-more}
 use Rattle.text.specs.Decimal.{digit, digitsIn, digits, signText, decimal}
 use Rattle.text.specs.Inside.{Written}
 
 -- ---- one thing after the other
-
-sets-more : (l : List ℕ) (i : ℕ) (a b : List ℕ) → sets (sets l i a) (i + length a) b ≡ sets l i (a ++ b)
-sets-more l i [] b = ap (λ (k : ℕ). sets l k b) (add-zero i)
-sets-more l i (x ∷ a) b = ap (λ (k : ℕ). sets (sets (set l i x) (suc i) a) k b) (add-suc i (length a) ∙ sym (suc-add i (length a))) ∙ sets-more (set l i x) (suc i) a b
 
 pub nothing : (text : List ℕ) (at : ℕ) → Written text at [] text at
 nothing text at = record { text = refl; ends = sym (add-zero at) }

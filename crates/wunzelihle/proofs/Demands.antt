@@ -1,20 +1,21 @@
--- What document 00 demands of the three calls of the C server, in its own words: read this page first.
+-- What document 00 demands of the five calls of the C server, in its own words, and what document 02, ticket 1, promises of writing a file: read this page first.
 --
 -- `F.Post κs args answer exit` is the contract of call F, and rt proves of its code that every call which meets `F.Pre` ends and leaves `F.Post`:
 -- `args` are the arguments, `answer` is 0 where the call is accepted and else its refusal, `exit` has the lent slices as they are left.
 -- A slice is its bytes, and `numbers` is the list that they stand for: "eight bytes a number, two's complement, lowest byte first".
--- Slices that are lent to be read can't be changed; those that are lent to be written are named before and after the call.
+-- `Bytes` says that what a slice holds are bytes, as every slice does. Slices that are lent to be read can't be changed; those that are lent to be written are named before and after the call.
 -- The definitions stand in the specs/ that are named below. The check of a file, its reader, the decoding of a row and the statement are entries, too: each one's contract
 -- is one definition, of crates `exercise` and `statement`. Assumes nothing.
-use mathlib.Core.Path.{_≡_, refl, sym, ap, _∙_, subst}
-use mathlib.Core.List.{List, [], _∷_}
-use Prim.Native.Nat.{ℕ, _/_, _<_}
+use mathlib.Core.Path.{_≡_, refl, sym, ap, ap₂, _∙_, subst}
+use mathlib.Core.List.{List, [], _∷_, _++_}
+use Prim.Native.Nat.{ℕ, _+_, _*_, _/_, _≤_, _<_}
 use contract.Lifetimes.{Lfts}
-use lib.IntN.{ℤ, _+ℤ_, _-ℤ_}
-use lib.ListN.{length}
+use lib.IntN.{ℤ, pos, _+ℤ_, _-ℤ_}
+use lib.ListN.{length, drop}
 use Rattle.ints.specs.Sum.{sum}
 use Rattle.ints.specs.Table.{_at_}
-use Rattle.numbers.specs.Bytes.{numbers}
+use Rattle.ints.proofs.Refusals.{lent-result, lent-before}
+use Rattle.numbers.specs.Bytes.{Bytes, numbers}
 use Rattle.units.specs.Units.{centsOf}
 use Rattle.split.specs.Fair.{Fair}
 use Rattle.split.specs.Split as split
@@ -26,24 +27,30 @@ use Rattle.load.specs.Order.{loadRefusal}
 use Rattle.load.proofs.Kilowatts.{assignment-within}
 use Rattle.load.proofs.Theorems.{demand-3}
 use Rattle.hour.specs.Charges as hour
-use Rattle.hour.specs.Hour.{Hour, congestionPrices, lossPrices, positions}
+use Rattle.hour.specs.Hour.{Hour, allPrices, congestionPrices, lossPrices, positions}
 use Rattle.hour.specs.InsideTested.{Sound}
 use Rattle.hour.specs.Order.{surplusRefusal}
 use Rattle.hour.specs.Surplus as surplus
 use Rattle.hour.proofs.Each.{congestion-at, loss-at, net-at}
 use Rattle.hour.proofs.Theorems as hour-laws
-use Rattle.exercise.specs.File.{hourOf}
-use Rattle.exercise.specs.Order.{inBytes, hourRefusal}
+use Rattle.exercise.specs.File.{header, hourOf}
+use Rattle.exercise.specs.Lists.{Content, content, hourGiven, listsRefusal, writeRefusal, writeOutcome, readRefusal, rowNumbers, transactionNumbers, inTurns, pricesListed, rowsListed, transactionsListed, contentOf, Holds}
+use Rattle.exercise.specs.Order.{inBytes, fileRefusal, hourRefusal}
+use Rattle.exercise.specs.Written.{fileOf, FitsFields}
 use Rattle.exercise.proofs.Accepted.{settled-sound, settled-accepts}
+use Rattle.exercise.proofs.Lists as lists
+use Rattle.exercise.proofs.Round as round
 use Rattle.wunzelihle.specs.Load.{loadBytesGiven, loadBytesRefusal}
 use Rattle.wunzelihle.specs.Split.{splitBytesRefusal}
 use Rattle.wunzelihle.proofs.InsideDemands.{unchanged, holds, fair-of, split-accepts, load-accepts}
-use Rattle.wunzelihle.proofs.Unique.{wz-split-unique, wz-assign-load-unique, wz-settle-hour-unique}
+use Rattle.wunzelihle.proofs.Unique.{wz-split-unique, wz-assign-load-unique, wz-settle-hour-unique, wz-write-file-unique, wz-read-file-unique}
 use Rattle.wunzelihle.proofs.wz_assign_load.Reads as wz-assign-load
+use Rattle.wunzelihle.proofs.wz_read_file.Reads as wz-read-file
 use Rattle.wunzelihle.proofs.wz_settle_hour.Reads as wz-settle-hour
 use Rattle.wunzelihle.proofs.wz_split.Reads as wz-split
+use Rattle.wunzelihle.proofs.wz_write_file.Reads as wz-write-file
 
--- ==== demand 1, of all three: "Every public entry takes every file, list and number that can be handed to it, and ends."
+-- ==== demand 1, of all five: "Every public entry takes every file, list and number that can be handed to it, and ends."
 
 pub split-takes-all : (κs : Lfts 2) (args : _) → wz-split.Pre κs args
 split-takes-all κs args = tt
@@ -53,6 +60,12 @@ load-takes-all κs args = tt
 
 pub hour-takes-all : (κs : Lfts 5) (args : _) → wz-settle-hour.Pre κs args
 hour-takes-all κs args = tt
+
+pub write-takes-all : (κs : Lfts 4) (args : _) → wz-write-file.Pre κs args
+write-takes-all κs args = tt
+
+pub read-takes-all : (κs : Lfts 4) (args : _) → wz-read-file.Pre κs args
+read-takes-all κs args = tt
 
 -- ==== wz_split
 
@@ -244,3 +257,159 @@ module _ (κs : Lfts 5) (args : _) (answer : ℕ) (exit : _) (post : wz-settle-h
     -- Demand 3: "This holds for every accepted hour's loss credits": they split the loss charges' sum over real-time load and exports
     pub hour-fair : Fair (sum loss) (surplus.shares held) credit
     hour-fair = fair-of (hour-laws.fair held sound shared) (ap sum (hour-whole .1) ∙ hour-laws.losses-total held sound shared) (hour-whole .2)
+
+-- ==== wz_write_file: document 02, ticket 1
+
+module _ (κs : Lfts 4) (args : _) (answer : ℕ) (exit : _) (post : wz-write-file.Post κs args answer exit) where
+  -- "header numbers, prices, rows and transactions in lent lists", and the hour that they are
+  abbrev handed : Content
+  handed = content (args .0) (args .1 .0) (args .1 .1 .0) (args .1 .1 .1 .0) (args .1 .1 .1 .1 .0 .now) (args .1 .1 .1 .1 .1 .0 .now) (args .1 .1 .1 .1 .1 .1 .0 .now)
+
+  -- the bytes of that hour
+  abbrev written : List ℕ
+  written = fileOf (hourGiven handed)
+
+  abbrev bufferBefore : List ℕ
+  bufferBefore = args .1 .1 .1 .1 .1 .1 .1 .0 .now
+
+  abbrev bufferAfter : List ℕ
+  bufferAfter = exit .1 .1 .1 .1 .1 .1 .1 .0 .now
+
+  -- Demand 1
+  pub write-answer : answer ≡ writeRefusal handed (length bufferBefore)
+  write-answer = post .0
+
+  pub write-one-result : (other : ℕ) (there : _) → wz-write-file.Post κs args other there → (answer ≡ other) × (bufferAfter ≡ there .1 .1 .1 .1 .1 .1 .1 .0 .now)
+  write-one-result other there q = wz-write-file-unique κs args answer other exit there post q
+
+  -- "A refused call changes nothing it was lent."
+  pub write-unchanged : (answer ≡ 0 → ⊥) → bufferAfter ≡ bufferBefore
+  write-unchanged some = post .1 ∙ sym (lent-before _ _ bufferBefore (λ z. some (post .0 ∙ z)))
+
+  module _ (accepted : answer ≡ 0) where
+    -- "Write the file .. to a lent buffer. .. Bytes beyond the file stay."
+    pub write-whole : bufferAfter ≡ written ++ drop (length written) bufferBefore
+    write-whole = post .1 ∙ lent-result _ _ bufferBefore (sym (post .0) ∙ accepted)
+
+    -- "Reading a written file gives back the hour", and the counts; what is written passes the check: `Holds`, field by field
+    pub write-holds : Holds written handed
+    write-holds = round.written-holds handed (length bufferBefore) (sym (post .0) ∙ accepted)
+
+    pub write-room : length written ≤ length bufferBefore
+    write-room = lists.write-passes handed (length bufferBefore) (sym (post .0) ∙ accepted) .2
+
+    pub write-length : length written ≡ 5 + 78 * header written .locations + 6 * header written .rows + 6 * header written .transactions
+    write-length = round.accepted-length written (write-holds .accepted)
+
+    -- .. and so does the other call: whenever it is lent this file and lists as long as these, it answers 0, and they are these, byte for byte
+    module _ (λs : Lfts 4) (again : _) (reply : ℕ) (given-back : _) (then-read : wz-read-file.Post λs again reply given-back)
+        (same-file : again .0 .now ≡ written)
+        (prices-long : length (again .1 .0 .now) ≡ length (handed .prices))
+        (rows-long : length (again .1 .1 .0 .now) ≡ length (handed .rowList))
+        (transactions-long : length (again .1 .1 .1 .0 .now) ≡ length (handed .transactionList)) where
+      pub write-then-read : reply ≡ 0
+      write-then-read =
+          then-read .0
+          ∙ ap₂ (λ (f : List ℕ) (n : ℕ). readRefusal f n (length (again .1 .1 .0 .now)) (length (again .1 .1 .1 .0 .now))) same-file prices-long
+          ∙ ap₂ (readRefusal written (length (handed .prices))) rows-long transactions-long
+          ∙ round.read-taken handed (length bufferBefore) (sym (post .0) ∙ accepted)
+
+      pub write-then-read-prices : Bytes (handed .prices) → given-back .1 .0 .now ≡ handed .prices
+      write-then-read-prices b =
+          then-read .1 .0 ∙ lent-result _ _ _ write-then-read ∙ ap (λ (f : List ℕ). pricesListed (hourOf f)) same-file
+          ∙ round.prices-back handed (length bufferBefore) (sym (post .0) ∙ accepted) b
+
+      pub write-then-read-rows : Bytes (handed .rowList) → given-back .1 .1 .0 .now ≡ handed .rowList
+      write-then-read-rows b =
+          then-read .1 .1 .0 ∙ lent-result _ _ _ write-then-read ∙ ap (λ (f : List ℕ). rowsListed (hourOf f)) same-file
+          ∙ round.rows-back handed (length bufferBefore) (sym (post .0) ∙ accepted) b
+
+      pub write-then-read-transactions : Bytes (handed .transactionList) → given-back .1 .1 .1 .0 .now ≡ handed .transactionList
+      write-then-read-transactions b =
+          then-read .1 .1 .1 ∙ lent-result _ _ _ write-then-read ∙ ap (λ (f : List ℕ). transactionsListed (hourOf f)) same-file
+          ∙ round.transactions-back handed (length bufferBefore) (sym (post .0) ∙ accepted) b
+
+  -- "It accepts exactly the content the reader would accept up to the last transaction.": what it accepts, an accepted file holds (`write-holds`), and what an accepted
+  -- file holds, it accepts, where the buffer has room
+  pub write-accepts : (file : List ℕ) → Bytes file → Holds file handed → length file ≤ length bufferBefore → answer ≡ 0
+  write-accepts file b k h = post .0 ∙ round.holds-taken file handed b k (length bufferBefore) h
+
+  -- .. and what fits its fields, in lists as long as the counts say, it refuses with the reader's number
+  pub write-same-number : (p l n m : ℕ) → args .0 ≡ pos p → args .1 .0 ≡ pos l → args .1 .1 .0 ≡ pos n → args .1 .1 .1 .0 ≡ pos m
+      → listsRefusal l n m (length (handed .prices)) (length (handed .rowList)) (length (handed .transactionList)) ≡ 0
+      → FitsFields (hourGiven handed) → length written ≤ length bufferBefore → answer ≡ fileRefusal written
+  write-same-number p l n m p-is l-is n-is m-is right f h =
+      let counts : handed ≡ content (pos p) (pos l) (pos n) (pos m) (handed .prices) (handed .rowList) (handed .transactionList) = lists.content-same p-is l-is n-is m-is in
+      post .0 ∙ ap (λ (c : Content). writeRefusal c (length bufferBefore)) counts
+      ∙ round.same-number p l n m _ _ _ right (subst (λ (c : Content). FitsFields (hourGiven c)) counts f) (length bufferBefore) (subst (λ (c : Content). length (fileOf (hourGiven c)) ≤ length bufferBefore) counts h)
+      ∙ sym (ap (λ (c : Content). fileRefusal (fileOf (hourGiven c))) counts)
+
+-- ==== wz_read_file
+
+module _ (κs : Lfts 4) (args : _) (answer : ℕ) (exit : _) (post : wz-read-file.Post κs args answer exit) where
+  abbrev source : List ℕ
+  source = args .0 .now
+
+  abbrev pricesBefore : List ℕ
+  pricesBefore = args .1 .0 .now
+
+  abbrev rowsBefore : List ℕ
+  rowsBefore = args .1 .1 .0 .now
+
+  abbrev transactionsBefore : List ℕ
+  transactionsBefore = args .1 .1 .1 .0 .now
+
+  -- Demand 1
+  pub read-answer : answer ≡ readRefusal source (length pricesBefore) (length rowsBefore) (length transactionsBefore)
+  read-answer = post .0
+
+  pub read-one-result : (other : ℕ) (there : _) → wz-read-file.Post κs args other there → (answer ≡ other) × (exit .1 .0 .now ≡ there .1 .0 .now) × (exit .1 .1 .0 .now ≡ there .1 .1 .0 .now) × (exit .1 .1 .1 .0 .now ≡ there .1 .1 .1 .0 .now)
+  read-one-result other there q = wz-read-file-unique κs args answer other exit there post q
+
+  pub read-unchanged : (answer ≡ 0 → ⊥) → (exit .1 .0 .now ≡ pricesBefore) × (exit .1 .1 .0 .now ≡ rowsBefore) × (exit .1 .1 .1 .0 .now ≡ transactionsBefore)
+  read-unchanged some = (
+    post .1 .0 ∙ sym (lent-before _ _ pricesBefore some),
+    post .1 .1 .0 ∙ sym (lent-before _ _ rowsBefore some),
+    post .1 .1 .1 ∙ sym (lent-before _ _ transactionsBefore some),
+  )
+
+  -- with lists as long as its header says, a file is read where the check answers 0, and else gets the check's number
+  pub read-checked : listsRefusal (header source .locations) (header source .rows) (header source .transactions) (length pricesBefore) (length rowsBefore) (length transactionsBefore) ≡ 0 → answer ≡ fileRefusal source
+  read-checked right = post .0 ∙ lists.read-checked source _ _ _ right
+
+  module _ (accepted : answer ≡ 0) where
+    pub read-passes : fileRefusal source ≡ 0
+    read-passes = lists.read-passes source _ _ _ (sym (post .0) ∙ accepted)
+
+    -- the three lists of the hour that it holds, in bytes
+    pub read-whole : (exit .1 .0 .now ≡ pricesListed (hourOf source)) × (exit .1 .1 .0 .now ≡ rowsListed (hourOf source)) × (exit .1 .1 .1 .0 .now ≡ transactionsListed (hourOf source))
+    read-whole = (
+      post .1 .0 ∙ lent-result _ _ pricesBefore accepted,
+      post .1 .1 .0 ∙ lent-result _ _ rowsBefore accepted,
+      post .1 .1 .1 ∙ lent-result _ _ transactionsBefore accepted,
+    )
+
+    -- .. and in numbers: each fits 64 bits and none wrapped
+    pub read-numbers : Bytes source
+        → (numbers (exit .1 .0 .now) ≡ allPrices (hourOf source)) × (numbers (exit .1 .1 .0 .now) ≡ inTurns rowNumbers (hourOf source .rows)) × (numbers (exit .1 .1 .1 .0 .now) ≡ inTurns transactionNumbers (hourOf source .transactions))
+    read-numbers b =
+        let n = round.listed-numbers source b read-passes in
+        (ap numbers (read-whole .0) ∙ n .0, ap numbers (read-whole .1) ∙ n .1, ap numbers (read-whole .2) ∙ n .2)
+
+    -- ".. writing what was read from an accepted file gives its bytes": whenever the other call is handed the counts of its header and these lists, and its buffer has
+    -- room, it answers 0 and the buffer begins with the file
+    module _ (λs : Lfts 4) (again : _) (reply : ℕ) (buffer : _) (then-write : wz-write-file.Post λs again reply buffer) (b : Bytes source)
+        (same : handed λs again reply buffer then-write ≡ content (pos (header source .participants)) (pos (header source .locations)) (pos (header source .rows)) (pos (header source .transactions)) (exit .1 .0 .now) (exit .1 .1 .0 .now) (exit .1 .1 .1 .0 .now))
+        (room : length source ≤ length (again .1 .1 .1 .1 .1 .1 .1 .0 .now)) where
+      same-content : handed λs again reply buffer then-write ≡ contentOf source
+      same-content = same ∙ lists.lists-same (read-whole .0) (read-whole .1) (read-whole .2)
+
+      pub read-then-write : reply ≡ 0
+      read-then-write =
+          then-write .0 ∙ ap (λ (c : Content). writeRefusal c (length (again .1 .1 .1 .1 .1 .1 .1 .0 .now))) same-content
+          ∙ round.listed-taken source b read-passes _ room
+
+      pub read-then-write-bytes : buffer .1 .1 .1 .1 .1 .1 .1 .0 .now ≡ source ++ drop (length source) (again .1 .1 .1 .1 .1 .1 .1 .0 .now)
+      read-then-write-bytes =
+          then-write .1 ∙ ap (λ (c : Content). writeOutcome c (again .1 .1 .1 .1 .1 .1 .1 .0 .now)) same-content
+          ∙ round.listed-again source b read-passes _ room

@@ -5,8 +5,10 @@ use Prim.Native.Nat.{ℕ}
 use contract.Lifetimes.{Lfts}
 use Rattle.ints.proofs.Unique.{unique}
 use Rattle.wunzelihle.proofs.wz_assign_load.Reads as wz-assign-load
+use Rattle.wunzelihle.proofs.wz_read_file.Reads as wz-read-file
 use Rattle.wunzelihle.proofs.wz_settle_hour.Reads as wz-settle-hour
 use Rattle.wunzelihle.proofs.wz_split.Reads as wz-split
+use Rattle.wunzelihle.proofs.wz_write_file.Reads as wz-write-file
 
 pub wz-split-unique : (κs : Lfts 2) (a : _) (r s : ℕ) (e f : _) → wz-split.Post κs a r e → wz-split.Post κs a s f → (r ≡ s) × (e .1 .1 .0 .now ≡ f .1 .1 .0 .now)
 wz-split-unique κs a r s e f p q = (unique (p .0) (q .0), unique (p .1) (q .1))
@@ -19,3 +21,12 @@ pub wz-settle-hour-unique : (κs : Lfts 5) (a : _) (r s : ℕ) (e f : _) → wz-
 wz-settle-hour-unique κs a r s e f p q =
     let t : wz-settle-hour.Post κs a r f = subst (λ (n : ℕ). wz-settle-hour.Post κs a n f) (unique (q .0) (p .0)) q in
     (unique (p .0) (q .0), unique (p .1 .0) (t .1 .0), unique (p .1 .1 .0) (t .1 .1 .0), unique (p .1 .1 .1 .0) (t .1 .1 .1 .0), unique (p .1 .1 .1 .1) (t .1 .1 .1 .1))
+
+pub wz-write-file-unique : (κs : Lfts 4) (a : _) (r s : ℕ) (e f : _) → wz-write-file.Post κs a r e → wz-write-file.Post κs a s f → (r ≡ s) × (e .1 .1 .1 .1 .1 .1 .1 .0 .now ≡ f .1 .1 .1 .1 .1 .1 .1 .0 .now)
+wz-write-file-unique κs a r s e f p q = (unique (p .0) (q .0), unique (p .1) (q .1))
+
+pub wz-read-file-unique : (κs : Lfts 4) (a : _) (r s : ℕ) (e f : _) → wz-read-file.Post κs a r e → wz-read-file.Post κs a s f
+    → (r ≡ s) × (e .1 .0 .now ≡ f .1 .0 .now) × (e .1 .1 .0 .now ≡ f .1 .1 .0 .now) × (e .1 .1 .1 .0 .now ≡ f .1 .1 .1 .0 .now)
+wz-read-file-unique κs a r s e f p q =
+    let t : wz-read-file.Post κs a r f = subst (λ (n : ℕ). wz-read-file.Post κs a n f) (unique (q .0) (p .0)) q in
+    (unique (p .0) (q .0), unique (p .1 .0) (t .1 .0), unique (p .1 .1 .0) (t .1 .1 .0), unique (p .1 .1 .1) (t .1 .1 .1))

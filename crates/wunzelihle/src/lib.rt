@@ -5,6 +5,7 @@ ghost use lib.ListN.{length};
 ghost use Rattle.ints.specs.Refusal.{lent};
 ghost use Rattle.numbers.specs.Bytes.{encoded};
 ghost use Rattle.exercise.specs.File.{hourOf};
+ghost use Rattle.exercise.specs.Lists.{content, writeRefusal, writeOutcome, readRefusal, pricesListed, rowsListed, transactionsListed};
 ghost use Rattle.exercise.specs.Order.{inBytes, hourRefusal};
 ghost use Rattle.hour.specs.Charges.{congestionCharges, lossCharges};
 ghost use Rattle.hour.specs.Surplus.{credits, nets};
@@ -124,4 +125,45 @@ pub extern "C" fn wz_settle_hour(
         &mut credit_cents[..k],
         &mut net_cents[..n],
     )
+}
+
+#[no_mangle]
+pub extern "C" fn wz_write_file(
+    participants: i64,
+    locations: i64,
+    rows: i64,
+    transactions: i64,
+    prices: &[u8],
+    row_list: &[u8],
+    transaction_list: &[u8],
+    file: &mut [u8],
+) -> u32
+    ensures { λ r. ⌜ r ≡ writeRefusal (content participants locations rows transactions (now (prices .entry)) (now («row_list» .entry)) (now («transaction_list» .entry))) (length (now (file .entry))) ⌝ }
+    ensures { λ _. ⌜ now (file .exit) ≡ writeOutcome (content participants locations rows transactions (now (prices .entry)) (now («row_list» .entry)) (now («transaction_list» .entry))) (now (file .entry)) ⌝ }
+{
+    exercise_write::write_file(
+        participants,
+        locations,
+        rows,
+        transactions,
+        prices,
+        row_list,
+        transaction_list,
+        file,
+    )
+}
+
+#[no_mangle]
+pub extern "C" fn wz_read_file(
+    file: &[u8],
+    prices: &mut [u8],
+    row_list: &mut [u8],
+    transaction_list: &mut [u8],
+) -> u32
+    ensures { λ r. ⌜ r ≡ readRefusal (now (file .entry)) (length (now (prices .entry))) (length (now («row_list» .entry))) (length (now («transaction_list» .entry))) ⌝ }
+    ensures { λ r. ⌜ now (prices .exit) ≡ lent r (pricesListed (hourOf (now (file .entry)))) (now (prices .entry)) ⌝ }
+    ensures { λ r. ⌜ now («row_list» .exit) ≡ lent r (rowsListed (hourOf (now (file .entry)))) (now («row_list» .entry)) ⌝ }
+    ensures { λ r. ⌜ now («transaction_list» .exit) ≡ lent r (transactionsListed (hourOf (now (file .entry)))) (now («transaction_list» .entry)) ⌝ }
+{
+    exercise_read::read_file(file, prices, row_list, transaction_list)
 }

@@ -1,9 +1,11 @@
-//! What document 01 asks of each call, behind the engine's own C interface:
+//! What the documents ask of each call, behind the engine's own C interface:
 //! `judge_X` takes what `wz_X` takes, and answers and writes what it must.
 
 use reference::hour::settle_hour;
-use reference::load::{assign_load, Given};
+use reference::load::{self, assign_load};
+use reference::read::read_file;
 use reference::split::split;
+use reference::write::{self, write_file};
 use std::slice;
 
 /// # Safety
@@ -44,7 +46,7 @@ pub unsafe extern "C" fn judge_assign_load(
     out_len: usize,
 ) -> u32 {
     let list = |bytes, len| slice::from_raw_parts(bytes, len).to_vec();
-    let given = Given {
+    let given = load::Given {
         metered,
         distributor,
         loads: list(loads, loads_len),
@@ -82,6 +84,63 @@ pub unsafe extern "C" fn judge_settle_hour(
     ];
     let mut after = [0, 1, 2, 3].map(|list: usize| lists[list].to_vec());
     let number = settle_hour(file, &mut after);
+    for (list, after) in lists.into_iter().zip(after) {
+        list.copy_from_slice(&after);
+    }
+    number
+}
+
+/// # Safety
+/// As for `judge_split`.
+#[no_mangle]
+pub unsafe extern "C" fn judge_write_file(
+    participants: i64,
+    locations: i64,
+    rows: i64,
+    transactions: i64,
+    prices: *const u8,
+    prices_len: usize,
+    row_list: *const u8,
+    row_list_len: usize,
+    transaction_list: *const u8,
+    transaction_list_len: usize,
+    file: *mut u8,
+    file_len: usize,
+) -> u32 {
+    let list = |bytes, len| slice::from_raw_parts(bytes, len).to_vec();
+    let given = write::Given {
+        participants,
+        locations,
+        rows,
+        transactions,
+        prices: list(prices, prices_len),
+        row_list: list(row_list, row_list_len),
+        transaction_list: list(transaction_list, transaction_list_len),
+    };
+    write_file(&given, slice::from_raw_parts_mut(file, file_len))
+}
+
+/// # Safety
+/// As for `judge_split`.
+#[no_mangle]
+pub unsafe extern "C" fn judge_read_file(
+    file: *const u8,
+    file_len: usize,
+    prices: *mut u8,
+    prices_len: usize,
+    row_list: *mut u8,
+    row_list_len: usize,
+    transaction_list: *mut u8,
+    transaction_list_len: usize,
+) -> u32 {
+    let file = slice::from_raw_parts(file, file_len);
+    let lists = [
+        slice::from_raw_parts_mut(prices, prices_len),
+        slice::from_raw_parts_mut(row_list, row_list_len),
+        slice::from_raw_parts_mut(transaction_list, transaction_list_len),
+    ];
+    let mut after = [0, 1, 2].map(|list: usize| lists[list].to_vec());
+    let number = read_file(file, &mut after);
     for (list, after) in lists.into_iter().zip(after) {
         list.copy_from_slice(&after);
     }

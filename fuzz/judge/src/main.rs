@@ -1,6 +1,6 @@
-//! `judge FOLDER COUNT` writes inputs for the hour's fuzzer to start from: the
-//! files of the first cases that the tests draw, each behind the byte that says
-//! that the output lists are as long as they must be.
+//! `judge FOLDER COUNT` writes inputs for the fuzzers of the hour and of reading
+//! to start from: the files of the first cases that the tests draw, each behind
+//! the byte that says that the output lists are as long as they must be.
 
 use reference::cases::hour::draw;
 use reference::random::Random;

@@ -1,6 +1,7 @@
 //! The exercise file: header, prices, rows and transactions, packed with the
 //! most significant bit first.
 
+use crate::bits::BitReader;
 use crate::MOST_KW;
 
 pub const INTERVALS: usize = 12;
@@ -9,8 +10,8 @@ pub const PRICE_BYTES: usize = 3;
 pub const ROW_BYTES: usize = 6;
 pub const TRANSACTION_BYTES: usize = 6;
 
-const MOST_ROWS: usize = 2_048;
-const MOST_TRANSACTIONS: usize = 256;
+pub const MOST_ROWS: usize = 2_048;
+pub const MOST_TRANSACTIONS: usize = 256;
 pub const MOST_PRICE: i64 = 5_000_000;
 
 pub const DAY_AHEAD: usize = 0;
@@ -33,6 +34,20 @@ pub struct Row {
     pub kw: i64,
 }
 
+impl Row {
+    /// A row as lists have it.
+    pub fn numbers(&self) -> [i64; 6] {
+        let fields = [
+            self.market,
+            self.kind,
+            self.interval,
+            self.participant,
+            self.location,
+        ];
+        six(fields, self.kw)
+    }
+}
+
 #[derive(Clone, Debug, PartialEq)]
 pub struct Transaction {
     pub market: usize,
@@ -41,6 +56,25 @@ pub struct Transaction {
     pub source: usize,
     pub sink: usize,
     pub kw: i64,
+}
+
+impl Transaction {
+    /// A transaction as lists have it.
+    pub fn numbers(&self) -> [i64; 6] {
+        let fields = [
+            self.market,
+            self.interval,
+            self.participant,
+            self.source,
+            self.sink,
+        ];
+        six(fields, self.kw)
+    }
+}
+
+fn six(fields: [usize; 5], kw: i64) -> [i64; 6] {
+    let [a, b, c, d, e] = fields.map(|field| field as i64);
+    [a, b, c, d, e, kw]
 }
 
 /// Prices in mills per MWh by location, in real time by interval and location.
@@ -80,36 +114,6 @@ pub struct Hour {
     pub loss: Prices,
     pub rows: Vec<Row>,
     pub transactions: Vec<Transaction>,
-}
-
-struct BitReader<'a> {
-    bytes: &'a [u8],
-    at: usize,
-}
-
-impl<'a> BitReader<'a> {
-    fn new(bytes: &'a [u8]) -> Self {
-        BitReader { bytes, at: 0 }
-    }
-
-    fn take(&mut self, bits: usize) -> usize {
-        let mut number = 0;
-        for _ in 0..bits {
-            let bit = self.bytes[self.at / 8] >> (7 - self.at % 8) & 1;
-            number = 2 * number + bit as usize;
-            self.at += 1;
-        }
-        number
-    }
-
-    fn take_signed(&mut self, bits: usize) -> i64 {
-        let number = self.take(bits) as i64;
-        if number >= 1 << (bits - 1) {
-            number - (1 << bits)
-        } else {
-            number
-        }
-    }
 }
 
 /// Decodes one row by itself, given the counts of participants and locations.

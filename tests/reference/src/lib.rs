@@ -1,8 +1,10 @@
-//! The rules of document 01, written a second time and for plainness, and the
-//! cases that the engine is held against.
+//! The rules of document 01 and of the requests in document 02 that are built,
+//! written a second time and for plainness, and the cases that the engine is
+//! held against.
 //!
-//! Nothing here is taken from the engine: the two share the document alone.
+//! Nothing here is taken from the engine: the two share the documents alone.
 
+pub mod bits;
 pub mod examples;
 pub mod exercise;
 pub mod files;
@@ -10,8 +12,10 @@ pub mod hour;
 pub mod load;
 pub mod numbers;
 pub mod random;
+pub mod read;
 pub mod split;
 pub mod statements;
+pub mod write;
 
 #[cfg(test)]
 mod vectors;
@@ -26,8 +30,10 @@ pub mod cases {
     pub mod check;
     pub mod hour;
     pub mod load;
+    pub mod read;
     pub mod row;
     pub mod split;
+    pub mod write;
 
     pub mod faults;
     pub mod file;

@@ -1,10 +1,10 @@
 //! `reference CALL COUNT SEED` prints cases for a call, one a line, with the
-//! answer and the output that document 01 asks for. `reference exercise NAME`
+//! answer and the output that the documents ask for. `reference exercise NAME`
 //! writes the bytes of `NAME.exercise`, a file of `examples/` or
 //! `tests/statements/`. `reference statements COUNT SEED FOLDER` writes random
 //! exercise files to a folder, each beside the statement it comes to.
 
-use reference::cases::{check, hour, load, row, split};
+use reference::cases::{check, hour, load, read, row, split, write};
 use reference::files;
 use reference::hour::statement;
 use reference::random::Random;
@@ -16,12 +16,14 @@ use std::process::ExitCode;
 /// The case of a turn.
 type Line = fn(usize, &mut Random) -> String;
 
-const CALLS: [(&str, &str, Line); 5] = [
+const CALLS: [(&str, &str, Line); 7] = [
     ("split", split::HEADER, split::line),
     ("load", load::HEADER, load::line),
     ("row", row::HEADER, row::line),
     ("check", check::HEADER, check::line),
     ("hour", hour::HEADER, hour::line),
+    ("write", write::HEADER, write::line),
+    ("read", read::HEADER, read::line),
 ];
 
 fn main() -> ExitCode {

@@ -1,6 +1,5 @@
 -- `exercise_prices::prices_refusal` meets its contract. Assumes nothing.
 use mathlib.Core.Path.{_≡_, sym, ap, _∙_}
-use mathlib.Core.Bool.{Bool, true, false}
 use Prim.Native.Nat.{_-_, _≤_}
 use native.Mathlib.Omega.{arith}
 use lib.IntN.{ℤ, pos, negℤ}
@@ -9,21 +8,12 @@ use mir.Facts.{toZ-ofZ}
 use borrow.Author.Needs.{needs, sfits-of}
 use borrow.Author.Tests.{not-true, not-false}
 use Rattle.ints.specs.Number.{between}
-use Rattle.ints.specs.Refusal.{unless}
 use Rattle.ints.proofs.Turns.{turn-start, turn-next, turn-first}
 use Rattle.exercise.specs.File.{priceAt}
+use Rattle.exercise.proofs.Prices.{price-inside, price-outside}
 use Rattle.exercise_prices.proofs.prices_refusal.Statement.{statement}
 use Rattle.exercise_prices.proofs.prices_refusal.Tie as tie
 use Rattle.exercise.specs.Inside.{priceRefusal, pricesInRefusal}
-
-module _ (price : ℤ) where
-  inside : between (negℤ (pos 5000000)) (pos 5000000) price ≡ true → priceRefusal price ≡ 0
-  unfolding priceRefusal
-  inside e = ap (λ (b : Bool). unless b 2 0) e
-
-  outside : between (negℤ (pos 5000000)) (pos 5000000) price ≡ false → priceRefusal price ≡ 2
-  unfolding priceRefusal
-  outside e = ap (λ (b : Bool). unless b 2 0) e
 
 abbrev Inv-loop : tie.InvT-loop
 Inv-loop prices n j₀ j = (j ≤ n) × (pricesInRefusal prices j ≡ 0)
@@ -52,7 +42,7 @@ is-between-requires c κs = search needs
 
 returns : tie.Need-returns Inv-loop μ-loop
 returns c = let l = loop (c .before) in
-    let refused : priceRefusal (here l) ≡ 2 = outside (here l) (sym (tested (c .before)) ∙ not-true _ (c .if1 .taken)) in
+    let refused : priceRefusal (here l) ≡ 2 = price-outside (here l) (sym (tested (c .before)) ∙ not-true _ (c .if1 .taken)) in
     sym (turn-first _ _ _ (search needs) (l .loop .inv .1) (λ z. omega arith) ∙ refused)
 
 add-j : tie.Need-add-j Inv-loop μ-loop
@@ -62,7 +52,7 @@ loop-less : tie.Need-loop-less Inv-loop μ-loop
 loop-less c = search needs
 
 loop-again : tie.Need-loop-again Inv-loop μ-loop
-loop-again c = (search needs, turn-next _ _ (loop (c .before) .loop .inv .1) (inside (here (loop (c .before))) (sym (tested (c .before)) ∙ not-false _ (c .if1 .left))))
+loop-again c = (search needs, turn-next _ _ (loop (c .before) .loop .inv .1) (price-inside (here (loop (c .before))) (sym (tested (c .before)) ∙ not-false _ (c .if1 .left))))
 
 returns-2 : tie.Need-returns-2 Inv-loop μ-loop
 returns-2 c = let l = c .before in sym (ap (pricesInRefusal (l .before .before .args .prices .now)) (omega arith) ∙ l .loop .inv .1)

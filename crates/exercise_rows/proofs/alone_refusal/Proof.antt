@@ -8,7 +8,8 @@ use borrow.Author.Needs.{needs}
 use Rattle.ints.proofs.Turns.{then-ends, then-follows}
 use Rattle.exercise.specs.Decoding.{givenRefusal}
 use Rattle.exercise_rows.specs.Inside.{refusalAt}
-use Rattle.exercise_rows.proofs.Given.{Given, given, cast}
+use Rattle.exercise_rows.proofs.Given.{Given, given}
+use Rattle.ints.proofs.Tests.{count-cast}
 use Rattle.exercise_rows.proofs.alone_refusal.Statement.{statement}
 use Rattle.exercise_rows.proofs.alone_refusal.Tie as tie
 
@@ -28,10 +29,10 @@ returns : tie.Need-returns
 returns c = then-ends _ _ _ (c .if1 .taken) (refusal (c .before))
 
 cast-refusal-at : tie.Need-cast-refusal-at
-cast-refusal-at c = cast (c .before .before .before .fits .participants) (passed c .from-participants)
+cast-refusal-at c = count-cast (c .before .before .before .fits .participants) (passed c .from-participants) (omega arith)
 
 cast-refusal-at-2 : tie.Need-cast-refusal-at-2
-cast-refusal-at-2 c = cast (c .before .before .before .fits .locations) (passed c .from-locations)
+cast-refusal-at-2 c = count-cast (c .before .before .before .fits .locations) (passed c .from-locations) (omega arith)
 
 refusal-at-requires : tie.Need-refusal-at-requires
 refusal-at-requires c κs = omega (arith, passed c .whole)

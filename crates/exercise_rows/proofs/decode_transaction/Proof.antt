@@ -1,5 +1,5 @@
 -- `exercise_rows::decode_transaction` meets its contract. Assumes nothing.
-use mathlib.Core.Path.{_≡_, sym, ap, ap₂, _∙_}
+use mathlib.Core.Path.{_≡_, sym, ap₂, _∙_}
 use mathlib.Core.Bool.{true}
 use native.Mathlib.Omega.{arith}
 use lib.IntN.{ℤ}
@@ -7,7 +7,7 @@ use mir.Facts.{toZ-ofZ}
 use borrow.Author.Needs.{needs}
 use Rattle.ints.proofs.Turns.{answer-refused, answer-accepted}
 use Rattle.exercise_rows.specs.Inside.{aloneRefusal}
-use Rattle.exercise.specs.File.{transactionOf, transactionAt}
+use Rattle.exercise.specs.File.{transactionAt}
 use Rattle.exercise.specs.declared.DecodedTransaction.the-variants.{Decoded, Refused}
 use Rattle.exercise_rows.proofs.Given.{alone-whole}
 use Rattle.exercise_rows.proofs.decode_transaction.Statement.{statement}
@@ -24,16 +24,13 @@ alone-refusal-requires c κs = search needs
 returns : tie.Need-returns
 returns c = answer-refused Decoded Refused _ (transactionAt (c .before .before .before .args .transaction .now) 0) _ (c .if1 .taken) (refusal (c .before))
 
-six-at-requires : tie.Need-six-at-requires
-six-at-requires c κs = let a = c .before .before .before .args in omega (arith, alone-whole true (a .participants) (a .locations) (a .transaction .now) (sym (refusal (c .before)) ∙ c .if1 .left))
-
-transaction-of-requires : tie.Need-transaction-of-requires
-transaction-of-requires c κs = search needs
+read-transaction-requires : tie.Need-read-transaction-requires
+read-transaction-requires c κs = let a = c .before .before .before .args in omega (arith, alone-whole true (a .participants) (a .locations) (a .transaction .now) (sym (refusal (c .before)) ∙ c .if1 .left))
 
 returns-2 : tie.Need-returns-2
-returns-2 c = let e = c .before .before in
-    answer-accepted Decoded Refused _ (transactionAt (e .before .before .before .args .transaction .now) 0) _ (sym (refusal (e .before)) ∙ e .if1 .left) (c .transaction-of .ensures ∙ ap transactionOf (c .before .six-at .ensures))
+returns-2 c = let e = c .before in
+    answer-accepted Decoded Refused _ (transactionAt (e .before .before .before .args .transaction .now) 0) _ (sym (refusal (e .before)) ∙ e .if1 .left) (c .read-transaction .ensures)
 
 pub decode-transaction-spec : {M : Type 1} → statement M
 decode-transaction-spec =
-    tie.close (tie.spec alone-refusal-requires returns six-at-requires transaction-of-requires returns-2)
+    tie.close (tie.spec alone-refusal-requires returns read-transaction-requires returns-2)

@@ -2,7 +2,7 @@
 use mathlib.Core.Path.{_≡_, sym, ap, _∙_}
 use borrow.Author.Needs.{needs}
 use Rattle.ints.proofs.Turns.{answer-refused, answer-accepted}
-use Rattle.exercise.specs.File.{transactionOf, transactionAt}
+use Rattle.exercise.specs.File.{transactionAt}
 use Rattle.hour.specs.Order.{transactionRefusal}
 use Rattle.exercise.specs.Order.{transactionRefusalAt}
 use Rattle.exercise.specs.declared.DecodedTransaction.the-variants.{Decoded, Refused}
@@ -10,23 +10,17 @@ use Rattle.exercise_rows.proofs.transaction_at.Statement.{statement}
 use Rattle.exercise_rows.proofs.transaction_at.Tie as tie
 
 abbrev start : tie.After-transaction-refusal → tie.Start
-start c = c .before .before .before .before
+start c = c .before .before .before
 
-transaction : (c : tie.After-transaction-refusal) → c .before .transaction-of .result ≡ transactionAt (start c .args .transactions .now) (start c .args .i)
-transaction c = c .before .transaction-of .ensures ∙ ap transactionOf (c .before .before .six-at .ensures)
+transaction : (c : tie.After-transaction-refusal) → c .before .read-transaction .result ≡ transactionAt (start c .args .transactions .now) (start c .args .i)
+transaction c = c .before .read-transaction .ensures
 
 refusal : (c : tie.After-transaction-refusal)
     → c .transaction-refusal .result ≡ transactionRefusalAt (start c .args .participants) (start c .args .locations) (start c .args .transactions .now) (start c .args .i)
 refusal c = c .transaction-refusal .ensures ∙ ap (transactionRefusal (start c .args .participants) (start c .args .locations)) (transaction c)
 
-mul-six-at : tie.Need-mul-six-at
-mul-six-at c = search needs
-
-six-at-requires : tie.Need-six-at-requires
-six-at-requires c κs = search needs
-
-transaction-of-requires : tie.Need-transaction-of-requires
-transaction-of-requires c κs = search needs
+read-transaction-requires : tie.Need-read-transaction-requires
+read-transaction-requires c κs = search needs
 
 transaction-refusal-requires : tie.Need-transaction-refusal-requires
 transaction-refusal-requires c κs = search needs
@@ -43,9 +37,7 @@ pub transaction-at-spec : {M : Type 1} → statement M
 transaction-at-spec =
     tie.close
     (tie.spec
-    mul-six-at
-    six-at-requires
-    transaction-of-requires
+    read-transaction-requires
     transaction-refusal-requires
     returns
     returns-2)

@@ -28,9 +28,31 @@ pub fn beyond(low: i64, high: i64, random: &mut Random) -> i64 {
     ])
 }
 
+/// A number outside its range with the low bits of the one in whose place it
+/// stands.
+pub fn wrapped(number: i64, low: i64, high: i64, random: &mut Random) -> i64 {
+    loop {
+        let bit = 1 << random.index(64);
+        let other = number.wrapping_add(bit);
+        if !(low..=high).contains(&other) {
+            return other;
+        }
+    }
+}
+
 #[cfg(test)]
 mod tests {
     use super::*;
+
+    #[test]
+    fn low_bits_stay() {
+        let mut random = Random::new(1);
+        let drawn: Vec<i64> = (0..2_000).map(|_| wrapped(5, 0, 11, &mut random)).collect();
+        assert!(drawn.iter().all(|number| !(0..=11).contains(number)));
+        for bit in 3..64 {
+            assert!(drawn.contains(&5_i64.wrapping_add(1 << bit)), "{bit}");
+        }
+    }
 
     #[test]
     fn every_pair_comes() {

@@ -1,39 +1,8 @@
 //! Builds exercise files, sound or damaged.
 
+use crate::bits::BitWriter;
 use crate::exercise::{Row, Transaction, INTERVALS};
 use crate::numbers::unhex;
-
-pub struct BitWriter {
-    pub bytes: Vec<u8>,
-    bits: usize,
-}
-
-impl BitWriter {
-    pub fn new() -> Self {
-        BitWriter {
-            bytes: Vec::new(),
-            bits: 0,
-        }
-    }
-
-    /// Appends a number's lowest bits, the most significant of them first.
-    pub fn put(&mut self, bits: usize, number: i64) {
-        for shift in (0..bits).rev() {
-            if self.bits % 8 == 0 {
-                self.bytes.push(0);
-            }
-            let bit = (number >> shift & 1) as u8;
-            *self.bytes.last_mut().unwrap() |= bit << (7 - self.bits % 8);
-            self.bits += 1;
-        }
-    }
-}
-
-impl Default for BitWriter {
-    fn default() -> Self {
-        Self::new()
-    }
-}
 
 #[derive(Clone)]
 pub struct File {

@@ -13,7 +13,7 @@ pub const HEADER: &str = "file\tcongestion before\tloss before\tcredit before\tn
 
 #[derive(Clone)]
 pub struct Case {
-    file: File,
+    pub file: File,
     /// Bytes more than the file has, or less, at its end.
     excess: i64,
     /// How much is left of a file of under five bytes.
@@ -98,21 +98,7 @@ pub fn draw(turn: usize, random: &mut Random) -> (Vec<u8>, [usize; 4]) {
             let faults = [first, second].map(|stage| random.pick(&faults_of(stage)));
             spoilt(&faults, random)
         }
-        21 => {
-            // Two faults with different numbers, by chance in the same row.
-            let mut case = faultless(random);
-            let stage = random.pick(&[ROWS, ROWS, TRANSACTIONS]);
-            let mut faults = faults_of(stage);
-            let first = random.pick(&faults);
-            faults.retain(|fault| fault.1 != first.1);
-            if random.once_in(2) {
-                case.file.rows.truncate(1);
-                case.file.transactions.truncate(1);
-            }
-            first.2(&mut case, random);
-            random.pick(&faults).2(&mut case, random);
-            case
-        }
+        21 => one_entry(random),
         22 => return damaged(random),
         _ => return crumbs(round, random),
     };
@@ -259,14 +245,14 @@ fn noise(
     file
 }
 
-fn small(random: &mut Random) -> File {
+pub fn small(random: &mut Random) -> File {
     let sizes = Sizes::any(random);
     let (participants, locations) = (1 + random.index(5), 1 + random.index(4));
     let (rows, transactions) = (random.index(16), random.index(5));
     noise(participants, locations, rows, transactions, &sizes, random)
 }
 
-fn medium(random: &mut Random) -> File {
+pub fn medium(random: &mut Random) -> File {
     let sizes = Sizes {
         kw: random.pick(&[1_000, 200_000]),
         congestion: random.pick(&[30_000, MOST_PRICE]),
@@ -666,13 +652,13 @@ fn settled(case: &Case) -> u32 {
 /// A way to be refused: its stage in the order, the number it gets when it
 /// stands alone, and how a case comes to it. None undoes another: a number that
 /// is wrong stays wrong, and a fault that needs prices or rows has its own.
-type Fault = (usize, u32, fn(&mut Case, &mut Random));
+pub type Fault = (usize, u32, fn(&mut Case, &mut Random));
 
 const UNDER_FIVE: usize = 0;
 const HEADER_SPARE: usize = 1;
 const COUNTS: usize = 2;
 const LENGTH: usize = 3;
-const LISTS: usize = 4;
+pub const LISTS: usize = 4;
 const PRICES: usize = 5;
 const ROWS: usize = 6;
 const TRANSACTIONS: usize = 7;
@@ -863,7 +849,7 @@ fn faults_of(stage: usize) -> Vec<&'static Fault> {
 }
 
 /// An hour that came to some faults, one after the other.
-fn spoilt(faults: &[&Fault], random: &mut Random) -> Case {
+pub fn spoilt(faults: &[&Fault], random: &mut Random) -> Case {
     let mut case = faultless(random);
     for fault in faults {
         fault.2(&mut case, random);
@@ -871,12 +857,34 @@ fn spoilt(faults: &[&Fault], random: &mut Random) -> Case {
     case
 }
 
-/// A file with the n-th of all pairs of faults that the check looks for.
-pub fn file_with_two_faults(n: usize, random: &mut Random) -> Vec<u8> {
-    let of_files: Vec<&Fault> = FAULTS
+/// Two faults of rows or of transactions with different numbers, by chance in
+/// the same entry.
+pub fn one_entry(random: &mut Random) -> Case {
+    let mut case = faultless(random);
+    let stage = random.pick(&[ROWS, ROWS, TRANSACTIONS]);
+    let mut faults = faults_of(stage);
+    let first = random.pick(&faults);
+    faults.retain(|fault| fault.1 != first.1);
+    if random.once_in(2) {
+        case.file.rows.truncate(1);
+        case.file.transactions.truncate(1);
+    }
+    first.2(&mut case, random);
+    random.pick(&faults).2(&mut case, random);
+    case
+}
+
+/// The faults that a check of the file looks for.
+pub fn faults_of_files() -> Vec<&'static Fault> {
+    FAULTS
         .iter()
         .filter(|fault| fault.0 <= TRANSACTIONS && fault.0 != LISTS)
-        .collect();
+        .collect()
+}
+
+/// A file with the n-th of all pairs of faults that the check looks for.
+pub fn file_with_two_faults(n: usize, random: &mut Random) -> Vec<u8> {
+    let of_files = faults_of_files();
     let (first, second) = pair(n, of_files.len());
     spoilt(&[of_files[first], of_files[second]], random).bytes()
 }

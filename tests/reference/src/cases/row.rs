@@ -1,7 +1,8 @@
 //! Cases of decoding one row.
 
 use super::faults::beyond;
-use super::file::{put_row, BitWriter};
+use super::file::put_row;
+use crate::bits::BitWriter;
 use crate::exercise::{decode_row, Row};
 use crate::numbers::hex;
 use crate::random::Random;

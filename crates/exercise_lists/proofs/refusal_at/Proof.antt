@@ -1,0 +1,25 @@
+-- `exercise_lists::refusal_at` meets its contract. Assumes nothing.
+use mathlib.Core.Path.{sym, ap, _∙_}
+use mathlib.Core.Bool.{Bool}
+use borrow.Author.Needs.{needs}
+use Rattle.exercise_lists.specs.Inside.{refusalGiven}
+use Rattle.exercise_lists.proofs.refusal_at.Statement.{statement}
+use Rattle.exercise_lists.proofs.refusal_at.Tie as tie
+
+transaction-refusal-requires : tie.Need-transaction-refusal-requires
+transaction-refusal-requires c κs = search needs
+
+returns : tie.Need-returns
+returns c = let a = c .before .before .before .args in
+    c .transaction-refusal .ensures ∙ sym (ap (λ (t : Bool). refusalGiven t (a .participants) (a .locations) (a .list .now) (a .i)) (c .before .if1 .taken))
+
+row-refusal-requires : tie.Need-row-refusal-requires
+row-refusal-requires c κs = search needs
+
+returns-2 : tie.Need-returns-2
+returns-2 c = let a = c .before .before .before .args in
+    c .row-refusal .ensures ∙ sym (ap (λ (t : Bool). refusalGiven t (a .participants) (a .locations) (a .list .now) (a .i)) (c .before .if1 .left))
+
+pub refusal-at-spec : {M : Type 1} → statement M
+refusal-at-spec =
+    tie.close (tie.spec transaction-refusal-requires returns row-refusal-requires returns-2)

@@ -1,0 +1,3 @@
+pub mod Stores
+pub mod Ready
+pub mod Unique

@@ -1,0 +1,449 @@
+#include "exercise_text.h"
+
+#include "say.h"
+#include "text.h"
+#include "units.h"
+
+#include <stdio.h>
+#include <string.h>
+
+#define TOO_SHORT "too short"
+#define SMALL_LETTERS "write it in small letters"
+#define DIGITS "0123456789"
+
+/* What was read of the text. */
+struct reading {
+    struct exercise *exercise;
+    struct lines *lines;
+};
+
+/* What a line is about. */
+struct topic {
+    enum market market;
+    enum thing thing;
+};
+
+/* ---- models */
+
+/* How a line may go on after its head. */
+static const char *rest_of(enum thing thing)
+{
+    switch (thing) {
+    case PRICES_OF_CONGESTION:
+    case PRICES_OF_LOSS:
+        return "$0.50 $2.00";
+    case TRANSACTION:
+        return "participant 0 from 1 to 2 5 MW";
+    default:
+        return "participant 0 location 1 200 MW";
+    }
+}
+
+/* Says what is wrong with a word, and then a line of the same topic; gives 0. */
+static int fault_with_model(const struct text *text, const struct topic *topic, const char *word,
+                            const char *why)
+{
+    char head[HEAD_LEN], all[300];
+
+    write_head(head, topic->market, topic->thing, 0, INTERVALS - 1);
+    snprintf(all, sizeof all, "%s '%s %s'", why, head, rest_of(topic->thing));
+    return fault(text, word, all);
+}
+
+static int too_short(const struct text *text, const struct topic *topic)
+{
+    return fault_with_model(text, topic, TOO_SHORT, "write it as");
+}
+
+/* ---- intervals */
+
+/* An interval, or a range of them; day-ahead it is 0, and no word of the line. */
+struct intervals {
+    const char *word;
+    int64_t first, last;
+};
+
+/* Reads 3, or 0-11. A - in the first place is a sign. */
+static int are_intervals(const char *word, struct intervals *intervals)
+{
+    char first[24];
+    size_t len = *word ? 1 + strcspn(word + 1, "-") : 0;
+
+    if (len >= sizeof first)
+        return 0;
+    memcpy(first, word, len);
+    first[len] = '\0';
+    if (read_number(first, &intervals->first) != NULL)
+        return 0;
+    if (word[len] == '\0')
+        intervals->last = intervals->first;
+    else if (read_number(word + len + 1, &intervals->last) != NULL)
+        return 0;
+    return intervals->first <= intervals->last;
+}
+
+static int read_intervals(struct text *text, const struct topic *topic,
+                          struct intervals *intervals)
+{
+    intervals->first = intervals->last = 0;
+    intervals->word = market_word[topic->market];
+    if (topic->market == DAY_AHEAD)
+        return 1;
+    intervals->word = next_word(text);
+    if (!intervals->word)
+        return too_short(text, topic);
+    return are_intervals(intervals->word, intervals) ||
+           fault_with_model(text, topic, intervals->word,
+                            "not an interval; a real-time line has one, as 3, or a range, as 0-11, "
+                            "the earlier one first:");
+}
+
+/* Why a range of intervals can't stand in a line, or NULL where a word is none or may. */
+static const char *why_no_range(const struct topic *topic, const char *word)
+{
+    struct intervals intervals;
+
+    if (topic->market == REAL_TIME || !are_intervals(word, &intervals) || !strchr(word + 1, '-'))
+        return NULL;
+    return "a day-ahead line has no interval";
+}
+
+/* ---- words */
+
+/* The line has no word more. */
+static int ends(struct text *text)
+{
+    const char *word = next_word(text);
+
+    return !word || fault(text, word, "one word too many; a comment begins with #");
+}
+
+/* Says why a word isn't one that may stand there; NULL is the line's end. Gives 0. */
+static int wrong_word(const struct text *text, const char *word, const char *why)
+{
+    if (!word)
+        return fault(text, TOO_SHORT, why);
+    return fault(text, word, has_capitals(word) ? SMALL_LETTERS : why);
+}
+
+/* Says that a word isn't the one that comes next in such a line; gives 0. */
+static int misplaced(const struct text *text, const struct topic *topic, const char *word)
+{
+    const char *why = why_no_range(topic, word);
+
+    if (why)
+        return fault(text, word, why);
+    if (has_capitals(word))
+        return fault(text, word, SMALL_LETTERS);
+    return fault_with_model(text, topic, word, "write it as");
+}
+
+/* Reads a number, with the word before it. */
+static int read_named(struct text *text, const struct topic *topic, const char *name,
+                      int64_t *number)
+{
+    const char *word = next_word(text), *why;
+
+    if (!word)
+        return too_short(text, topic);
+    if (strcmp(word, name) != 0)
+        return misplaced(text, topic, word);
+    word = next_word(text);
+    if (!word)
+        return too_short(text, topic);
+    if (word[strcspn(word, DIGITS)] == '\0')
+        return fault(text, word,
+                     strcmp(name, "participant") == 0 ? "participants are told by number, from 0"
+                                                      : "locations are told by number, from 0");
+    why = read_number(word, number);
+    return !why || fault(text, word, why);
+}
+
+/* Reads power, the last of its line, with or without a unit. */
+static int read_last_power(struct text *text, const struct topic *topic, struct lines *lines,
+                           int64_t *kw)
+{
+    const char *word = next_word(text), *unit = next_word(text), *why;
+
+    if (!word)
+        return too_short(text, topic);
+    if (unit && !is_power_unit(unit))
+        return fault(text, unit,
+                     "not a unit of power; write kW or MW, in these letters, or nothing for kW");
+    why = read_power(word, unit, kw);
+    if (why)
+        return fault(text, word, why);
+    if (!unit && *kw != 0 && lines->without_unit == 0)
+        lines->without_unit = text->line_number;
+    return ends(text);
+}
+
+/* ---- prices */
+
+/* Says how many prices a line has and how many it needs; gives 0. */
+static int wrong_count(const struct text *text, const struct topic *topic, size_t given,
+                       size_t locations)
+{
+    char why[160];
+
+    snprintf(why, sizeof why, "%zu price%s; there %s %zu location%s", given, plural(given),
+             locations == 1 ? "is" : "are", locations, plural(locations));
+    if (given > locations)
+        return fault(text, "too many", why);
+    if (topic->market == DAY_AHEAD)
+        return fault(text, TOO_SHORT, why);
+    strcat(why, "; a real-time line has its interval, as 0-11, before the prices:");
+    return fault_with_model(text, topic, TOO_SHORT, why);
+}
+
+/* Reads a price for each location, up to the line's end. */
+static int read_prices(struct text *text, const struct topic *topic,
+                       const struct exercise *exercise, int64_t mills[MOST_LOCATIONS])
+{
+    size_t given = 0, locations;
+    const char *word;
+
+    while ((word = next_word(text))) {
+        const char *range = why_no_range(topic, word), *why;
+        int64_t price;
+
+        why = range ? range : read_price(word, &price);
+        if (why)
+            return fault(text, word, why);
+        if (given < MOST_LOCATIONS)
+            mills[given] = price;
+        given++;
+    }
+    if (!has_room_for_prices(exercise)) /* which is refused, whatever is here */
+        return 1;
+    locations = (size_t)exercise->locations;
+    return given == locations || wrong_count(text, topic, given, locations);
+}
+
+/* The intervals exist, since the list of prices has no place for others, and are free. */
+static int are_free(const struct text *text, const struct reading *reading,
+                    const struct topic *topic, enum price_list list,
+                    const struct intervals *intervals)
+{
+    int64_t k;
+
+    if (intervals->first < 0 || intervals->last >= INTERVALS)
+        return fault_with_model(text, topic, intervals->word,
+                                "there are intervals 0 to 11, which stand before the prices:");
+    for (k = intervals->first; k <= intervals->last; k++) {
+        if (reading->lines->stretches[stretch_of(list, topic->market, (size_t)k)] != 0)
+            return fault(text, intervals->word,
+                         "there are such prices already; keep one of them");
+    }
+    return 1;
+}
+
+static void keep_prices(struct reading *reading, size_t stretch, const int64_t *mills, size_t line)
+{
+    size_t l;
+
+    reading->lines->stretches[stretch] = line;
+    if (!has_room_for_prices(reading->exercise))
+        return;
+    for (l = 0; l < (size_t)reading->exercise->locations; l++)
+        set_price(reading->exercise, stretch, l, mills[l]);
+}
+
+static int take_prices(struct text *text, struct reading *reading, const struct topic *topic,
+                       enum price_list list)
+{
+    struct intervals intervals;
+    int64_t mills[MOST_LOCATIONS], k;
+
+    if (reading->lines->locations == 0)
+        return fault(text, "prices", "write the line 'locations' before them");
+    if (!read_intervals(text, topic, &intervals) ||
+        !are_free(text, reading, topic, list, &intervals) ||
+        !read_prices(text, topic, reading->exercise, mills))
+        return 0;
+    for (k = intervals.first; k <= intervals.last; k++)
+        keep_prices(reading, stretch_of(list, topic->market, (size_t)k), mills, text->line_number);
+    return 1;
+}
+
+/* ---- rows and transactions */
+
+/*
+ * Adds an entry for each interval, as far as there is room; `place` is where
+ * the interval stands in it.
+ */
+static void add_entries(struct entries *entries, int64_t numbers[ENTRY], size_t place,
+                        const struct intervals *intervals, size_t *lines, size_t line)
+{
+    int64_t interval = intervals->first;
+    size_t i;
+
+    while (entries->count < ROOM) {
+        numbers[place] = interval;
+        for (i = 0; i < ENTRY; i++)
+            set_number(entries->numbers, ENTRY * entries->count + i, numbers[i]);
+        lines[entries->count++] = line;
+        if (interval == intervals->last)
+            return;
+        interval++;
+    }
+}
+
+static int take_row(struct text *text, struct reading *reading, const struct topic *topic)
+{
+    int64_t row[ENTRY] = {[ROW_MARKET] = topic->market, [ROW_KIND] = topic->thing};
+    struct intervals intervals;
+
+    if (!read_intervals(text, topic, &intervals) ||
+        !read_named(text, topic, "participant", &row[ROW_PARTICIPANT]) ||
+        !read_named(text, topic, "location", &row[ROW_LOCATION]) ||
+        !read_last_power(text, topic, reading->lines, &row[ROW_KW]))
+        return 0;
+    add_entries(&reading->exercise->rows, row, ROW_INTERVAL, &intervals, reading->lines->rows,
+                text->line_number);
+    return 1;
+}
+
+static int take_transaction(struct text *text, struct reading *reading,
+                            const struct topic *topic)
+{
+    int64_t transaction[ENTRY] = {[TRANSACTION_MARKET] = topic->market};
+    struct intervals intervals;
+
+    if (!read_intervals(text, topic, &intervals) ||
+        !read_named(text, topic, "participant", &transaction[TRANSACTION_PARTICIPANT]) ||
+        !read_named(text, topic, "from", &transaction[TRANSACTION_SOURCE]) ||
+        !read_named(text, topic, "to", &transaction[TRANSACTION_SINK]) ||
+        !read_last_power(text, topic, reading->lines, &transaction[TRANSACTION_KW]))
+        return 0;
+    add_entries(&reading->exercise->transactions, transaction, TRANSACTION_INTERVAL, &intervals,
+                reading->lines->transactions, text->line_number);
+    return 1;
+}
+
+/* ---- lines */
+
+/* Reads the second word of a thing, where it has one. */
+static int read_second(struct text *text, const char *const words[2])
+{
+    const char *word;
+    char why[64];
+
+    if (!words[1])
+        return 1;
+    word = next_word(text);
+    if (word && strcmp(word, words[1]) == 0)
+        return 1;
+    snprintf(why, sizeof why, "'%s' is followed by '%s'", words[0], words[1]);
+    return wrong_word(text, word, why);
+}
+
+/* Reads the one or two words of a thing. */
+static int read_thing(struct text *text, enum thing *thing)
+{
+    const char *word = next_word(text);
+
+    for (*thing = LOAD; word && *thing < THINGS; ++*thing) {
+        if (strcmp(word, thing_words[*thing][0]) == 0)
+            return read_second(text, thing_words[*thing]);
+    }
+    return wrong_word(text, word,
+                      "a market is followed by load, generation, export, import, decrement bid, "
+                      "increment offer, transaction, congestion prices or loss prices");
+}
+
+static int take_thing(struct text *text, struct reading *reading, enum market market)
+{
+    struct topic topic = {.market = market};
+
+    if (!read_thing(text, &topic.thing))
+        return 0;
+    switch (topic.thing) {
+    case PRICES_OF_CONGESTION:
+        return take_prices(text, reading, &topic, CONGESTION_PRICES);
+    case PRICES_OF_LOSS:
+        return take_prices(text, reading, &topic, LOSS_PRICES);
+    case TRANSACTION:
+        return take_transaction(text, reading, &topic);
+    default:
+        return take_row(text, reading, &topic);
+    }
+}
+
+static int take_count(struct text *text, const char *name, int64_t *count, size_t *line)
+{
+    const char *word = next_word(text), *why;
+
+    if (*line != 0)
+        return fault(text, name, "there is such a line already; keep one of them");
+    if (!word)
+        return fault(text, TOO_SHORT, "write how many there are");
+    why = read_number(word, count);
+    if (why)
+        return fault(text, word, why);
+    *line = text->line_number;
+    return ends(text);
+}
+
+static int take_line(struct text *text, void *into)
+{
+    struct reading *reading = into;
+    const char *word = next_word(text);
+    enum market market;
+
+    if (strcmp(word, "participants") == 0)
+        return take_count(text, word, &reading->exercise->participants,
+                          &reading->lines->participants);
+    if (strcmp(word, "locations") == 0)
+        return take_count(text, word, &reading->exercise->locations, &reading->lines->locations);
+    for (market = DAY_AHEAD; market < MARKETS; market++) {
+        if (strcmp(word, market_word[market]) == 0)
+            return take_thing(text, reading, market);
+    }
+    return wrong_word(
+        text, word,
+        "no such line; one begins with participants, locations, day-ahead or real-time");
+}
+
+/* ---- the whole */
+
+/* Gives 0 where intervals have no prices, and has said which are the first of them. */
+static int has_prices(const struct text *text, const struct lines *lines, enum price_list list)
+{
+    const size_t *intervals = lines->stretches + stretch_of(list, REAL_TIME, 0);
+    char line[HEAD_LEN];
+    size_t first = 0, after;
+
+    if (lines->stretches[stretch_of(list, DAY_AHEAD, 0)] == 0) {
+        write_head(line, DAY_AHEAD, prices_of(list), 0, 0);
+        return missing(text, line, "write a price for each location");
+    }
+    while (first < INTERVALS && intervals[first] != 0)
+        first++;
+    if (first == INTERVALS)
+        return 1;
+    after = first + 1;
+    while (after < INTERVALS && intervals[after] == 0)
+        after++;
+    write_head(line, REAL_TIME, prices_of(list), (int64_t)first, (int64_t)after - 1);
+    return missing(text, line, "write a price for each location");
+}
+
+static int is_whole(const struct text *text, const struct lines *lines)
+{
+    if (lines->participants == 0)
+        return missing(text, "participants", "write how many there are");
+    if (lines->locations == 0)
+        return missing(text, "locations", "write how many there are");
+    return has_prices(text, lines, CONGESTION_PRICES) && has_prices(text, lines, LOSS_PRICES);
+}
+
+int read_exercise_text(const char *name, struct exercise *exercise, struct lines *lines)
+{
+    struct reading reading = {exercise, lines};
+    struct text text;
+
+    memset(exercise, 0, sizeof *exercise);
+    memset(lines, 0, sizeof *lines);
+    return read_text(&text, name, take_line, &reading) && is_whole(&text, lines);
+}

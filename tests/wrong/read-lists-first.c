@@ -1,0 +1,3 @@
+/* The lists are tested before the file's length. */
+#define MISTAKE LISTS_FIRST
+#include "read.h"

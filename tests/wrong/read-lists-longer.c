@@ -1,0 +1,3 @@
+/* Lists may be longer than they must be. */
+#define MISTAKE LISTS_LONGER
+#include "read.h"

@@ -1,0 +1,3 @@
+/* Prices of loss are listed before those of congestion. */
+#define MISTAKE LOSS_FIRST
+#include "read.h"

@@ -1,0 +1,3 @@
+/* Every call is refused. */
+#define MISTAKE REFUSES_ALL
+#include "read.h"

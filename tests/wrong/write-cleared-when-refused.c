@@ -1,0 +1,3 @@
+/* A refused call clears the buffer. */
+#define MISTAKE CLEARED_WHEN_REFUSED
+#include "write.h"

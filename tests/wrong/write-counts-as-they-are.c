@@ -1,0 +1,3 @@
+/* The header has the participants without the less 1. */
+#define MISTAKE COUNTS_AS_THEY_ARE
+#include "write.h"

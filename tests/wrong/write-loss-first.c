@@ -1,0 +1,3 @@
+/* Prices of loss are written before those of congestion. */
+#define MISTAKE LOSS_FIRST
+#include "write.h"

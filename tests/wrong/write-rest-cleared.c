@@ -1,0 +1,3 @@
+/* Bytes beyond the file are cleared. */
+#define MISTAKE REST_CLEARED
+#include "write.h"

@@ -1,0 +1,3 @@
+/* The answer is right and nothing is written. */
+#define MISTAKE WRITES_NOTHING
+#include "write.h"
