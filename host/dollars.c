@@ -1,95 +1,108 @@
 #include "statement.h"
 
-#include <inttypes.h>
 #include <stdio.h>
 #include <string.h>
 
 #define COLUMNS (1 + FIGURES)
+#define WIDEST LABEL_LEN /* more than an amount is */
 
 static const char *const heading[COLUMNS] = {"Participant", "Congestion charge", "Loss charge",
                                              "Loss credit", "Net"};
 
-void dollars_of(int64_t cents, char text[DOLLARS_LEN])
-{
-    uint64_t size = cents < 0 ? 0 - (uint64_t)cents : (uint64_t)cents;
+/* A statement with the names of its participants. */
+struct page {
+    const struct statement *statement;
+    const struct names *names;
+    int has_names;
+    size_t width[COLUMNS];
+};
 
-    snprintf(text, DOLLARS_LEN, "%s%" PRIu64 ".%02u", cents < 0 ? "-" : "", size / 100,
-             (unsigned)(size % 100));
+/* What stands before a line's amounts: a participant's number and name. */
+static void participant_of(const struct page *page, size_t line, char text[WIDEST])
+{
+    int width = page->has_names && page->statement->participants > 10 ? 2 : 1;
+
+    if (line == page->statement->participants)
+        snprintf(text, WIDEST, "Total");
+    else
+        write_label(text, page->names, PARTICIPANT, (int64_t)line, width);
 }
 
 /* What stands in a line and a column; the line after the participants has the totals. */
-static void cell_of(const struct statement *statement, size_t line, size_t column,
-                    char text[DOLLARS_LEN])
+static void cell_of(const struct page *page, size_t line, size_t column, char text[WIDEST])
 {
+    const struct statement *statement = page->statement;
     int totals = line == statement->participants;
 
-    if (column > 0)
-        dollars_of((totals ? statement->total : statement->of[line])[column - 1], text);
-    else if (totals)
-        snprintf(text, DOLLARS_LEN, "Total");
+    if (column == 0)
+        participant_of(page, line, text);
     else
-        snprintf(text, DOLLARS_LEN, "%zu", line);
+        dollars_of((totals ? statement->total : statement->of[line])[column - 1], text);
 }
 
-/*
- * A column is as wide as the widest that stands in it, which is less than
- * DOLLARS_LEN: no heading is wider than an amount can be.
- */
-static size_t width_of(const struct statement *statement, size_t column)
+/* A column is as wide as the widest that stands in it. */
+static size_t width_of(const struct page *page, size_t column)
 {
-    char text[DOLLARS_LEN];
+    char text[WIDEST];
     size_t width = strlen(heading[column]);
     size_t line;
 
-    for (line = 0; line <= statement->participants; line++) {
-        cell_of(statement, line, column, text);
-        if (strlen(text) > width)
-            width = strlen(text);
+    for (line = 0; line <= page->statement->participants; line++) {
+        cell_of(page, line, column, text);
+        if (letters_in(text) > width)
+            width = letters_in(text);
     }
     return width;
 }
 
-/* Prints a column of a line at the column's right, and the line's end in the last. */
-static void print_cell(const char *text, size_t column, const size_t *width)
+/*
+ * Prints a column of a line at the column's right, participants with names at
+ * its left, and the line's end in the last.
+ */
+static void print_cell(const struct page *page, const char *text, size_t column)
 {
-    printf("%*s%s", (int)width[column], text, column + 1 < COLUMNS ? "  " : "\n");
+    int blanks = (int)(page->width[column] - letters_in(text));
+    int is_left = column == 0 && page->has_names;
+
+    printf("%*s%s%*s%s", is_left ? 0 : blanks, "", text, is_left ? blanks : 0, "",
+           column + 1 < COLUMNS ? "  " : "\n");
 }
 
-static void print_line(const struct statement *statement, size_t line, const size_t *width)
+static void print_line(const struct page *page, size_t line)
 {
-    char text[DOLLARS_LEN];
+    char text[WIDEST];
     size_t c;
 
     for (c = 0; c < COLUMNS; c++) {
-        cell_of(statement, line, c, text);
-        print_cell(text, c, width);
+        cell_of(page, line, c, text);
+        print_cell(page, text, c);
     }
 }
 
-static void print_rule(const size_t *width)
+static void print_rule(const struct page *page)
 {
-    char text[DOLLARS_LEN];
+    char text[WIDEST];
     size_t c;
 
     for (c = 0; c < COLUMNS; c++) {
-        memset(text, '-', width[c]);
-        text[width[c]] = '\0';
-        print_cell(text, c, width);
+        memset(text, '-', page->width[c]);
+        text[page->width[c]] = '\0';
+        print_cell(page, text, c);
     }
 }
 
-void print_dollars(const struct statement *statement)
+void print_dollars(const struct statement *statement, const struct names *names)
 {
-    size_t width[COLUMNS];
+    struct page page = {statement, names, has_names(names, PARTICIPANT), {0}};
     size_t c, p;
 
     for (c = 0; c < COLUMNS; c++)
-        width[c] = width_of(statement, c);
+        page.width[c] = width_of(&page, c);
     puts("In dollars. Net is the two charges less the loss credit.\n");
     for (c = 0; c < COLUMNS; c++)
-        print_cell(heading[c], c, width);
+        print_cell(&page, heading[c], c);
     for (p = 0; p < statement->participants; p++)
-        print_line(statement, p, width);
-    print_rule(width);
-    print_line(statement, statement->participants, width);
+        print_line(&page, p);
+    print_rule(&page);
+    print_line(&page, statement->participants);
 }

@@ -1,100 +1,119 @@
 #include "exercise.h"
 
-#include "wunzelihle.h"
+#include <string.h>
 
-/* Bytes of a file's header, of a price, and of a row or a transaction. */
-#define HEADER 5
-#define PRICE_BYTES 3
-#define ENTRY_BYTES 6
+#define HEADER 5 /* bytes of a file's header */
+
+/* Arguments of the calls: an hour's counts, and its lists with their lengths. */
+#define LISTS_OF(exercise)                                                                        \
+    (exercise)->prices, prices_len(exercise), (exercise)->rows.numbers,                           \
+        entries_len(&(exercise)->rows), (exercise)->transactions.numbers,                         \
+        entries_len(&(exercise)->transactions)
+#define COUNTS_OF(exercise)                                                                       \
+    (exercise)->participants, (exercise)->locations, (int64_t)(exercise)->rows.count,             \
+        (int64_t)(exercise)->transactions.count
 
 int64_t entry_number(const struct entries *entries, size_t entry, size_t i)
 {
-    return number_at(entries->numbers, ENTRY * entry + i);
+    return wz_get(entries->numbers, ENTRY * entry + i);
 }
 
 int has_room_for_prices(const struct exercise *exercise)
 {
-    return exercise->locations >= 1 && exercise->locations <= MOST_LOCATIONS;
+    return exercise->locations >= 1 && exercise->locations <= WZ_MOST_LOCATIONS;
 }
 
 size_t stretch_of(enum price_list list, enum market market, size_t interval)
 {
-    return (size_t)list * (1 + INTERVALS) + (market == DAY_AHEAD ? 0 : 1 + interval);
+    return (size_t)list * (1 + WZ_INTERVALS) + (market == DAY_AHEAD ? 0 : 1 + interval);
 }
 
-static size_t price_place(const struct exercise *exercise, size_t stretch, size_t location)
+enum price_list list_of(size_t stretch)
+{
+    return (enum price_list)(stretch / (1 + WZ_INTERVALS));
+}
+
+enum market market_of(size_t stretch)
+{
+    return stretch % (1 + WZ_INTERVALS) == 0 ? DAY_AHEAD : REAL_TIME;
+}
+
+size_t interval_of(size_t stretch)
+{
+    return market_of(stretch) == DAY_AHEAD ? 0 : stretch % (1 + WZ_INTERVALS) - 1;
+}
+
+static size_t price_number(const struct exercise *exercise, size_t stretch, size_t location)
 {
     return stretch * (size_t)exercise->locations + location;
 }
 
 int64_t price_at(const struct exercise *exercise, size_t stretch, size_t location)
 {
-    return number_at(exercise->prices, price_place(exercise, stretch, location));
+    return wz_get(exercise->prices, price_number(exercise, stretch, location));
 }
 
 void set_price(struct exercise *exercise, size_t stretch, size_t location, int64_t mills)
 {
-    set_number(exercise->prices, price_place(exercise, stretch, location), mills);
+    wz_put(exercise->prices, price_number(exercise, stretch, location), mills);
+}
+
+size_t price_place(size_t number)
+{
+    return HEADER + PRICE_BYTES * number;
+}
+
+size_t entry_place(size_t locations, size_t entry)
+{
+    return price_place(WZ_LOCATION_PRICES * locations) + ENTRY_BYTES * entry;
 }
 
 /* The lengths of the lists in bytes. */
 static size_t prices_len(const struct exercise *exercise)
 {
-    return has_room_for_prices(exercise) ? NUMBER * STRETCHES * (size_t)exercise->locations : 0;
+    return has_room_for_prices(exercise) ? WZ_NUMBER * WZ_LOCATION_PRICES * (size_t)exercise->locations : 0;
 }
 
 static size_t entries_len(const struct entries *entries)
 {
-    return NUMBER * ENTRY * entries->count;
+    return WZ_NUMBER * ENTRY * entries->count;
 }
 
-uint32_t write_exercise(const struct exercise *exercise, uint8_t file[LONGEST_FILE], size_t *len)
+void counts_in_header(const uint8_t *file, size_t length, uint8_t counts[WZ_NUMBER * WZ_COUNT_NUMBERS])
 {
-    const struct entries *rows = &exercise->rows, *transactions = &exercise->transactions;
-    uint32_t refusal = wz_write_file(exercise->participants, exercise->locations,
-                                     (int64_t)rows->count, (int64_t)transactions->count,
-                                     exercise->prices, prices_len(exercise), rows->numbers,
-                                     entries_len(rows), transactions->numbers,
-                                     entries_len(transactions), file, LONGEST_FILE);
+    uint8_t whole[WZ_LONGEST_FILE] = {0}; /* a file of that header and that length */
+
+    memcpy(whole, file, HEADER);
+    wz_counts(whole, length, counts, WZ_NUMBER * WZ_COUNT_NUMBERS);
+}
+
+uint32_t write_exercise(const struct exercise *exercise, uint8_t file[WZ_LONGEST_FILE],
+                        size_t *len)
+{
+    uint32_t refusal =
+        wz_write_file(COUNTS_OF(exercise), LISTS_OF(exercise), file, WZ_LONGEST_FILE);
 
     if (refusal == WZ_OK)
-        *len = HEADER + PRICE_BYTES * STRETCHES * (size_t)exercise->locations +
-               ENTRY_BYTES * (rows->count + transactions->count);
+        *len = entry_place((size_t)exercise->locations,
+                           exercise->rows.count + exercise->transactions.count);
     return refusal;
-}
-
-static size_t at_most(size_t number, size_t most)
-{
-    return number < most ? number : most;
-}
-
-/*
- * Takes the counts from the header, which tell how long the lists are: 6 bits,
- * 6, 12 and 10. Of more rows and transactions than there is room for, the file
- * is refused.
- */
-static void read_counts(const uint8_t *file, struct exercise *exercise)
-{
-    uint64_t header = 0;
-    size_t i;
-
-    for (i = 0; i < HEADER; i++)
-        header = header << 8 | file[i];
-    exercise->participants = (int64_t)(header >> 34 & 0x3f) + 1;
-    exercise->locations = (int64_t)(header >> 28 & 0x3f) + 1;
-    exercise->rows.count = at_most(header >> 16 & 0xfff, ROOM);
-    exercise->transactions.count = at_most(header >> 6 & 0x3ff, ROOM);
 }
 
 uint32_t read_exercise(const uint8_t *file, size_t len, struct exercise *exercise)
 {
-    if (len < HEADER) {
-        exercise->participants = exercise->locations = 1;
-        exercise->rows.count = exercise->transactions.count = 0;
-    } else {
-        read_counts(file, exercise);
-    }
-    return wz_read_file(file, len, exercise->prices, prices_len(exercise), exercise->rows.numbers,
-                        entries_len(&exercise->rows), exercise->transactions.numbers,
-                        entries_len(&exercise->transactions));
+    uint8_t counts[WZ_NUMBER * WZ_COUNT_NUMBERS];
+    uint32_t refusal = wz_counts(file, len, counts, sizeof counts);
+
+    if (refusal != WZ_OK)
+        return refusal;
+    exercise->participants = wz_get(counts, 0);
+    exercise->locations = wz_get(counts, 1);
+    exercise->rows.count = (size_t)wz_get(counts, 2);
+    exercise->transactions.count = (size_t)wz_get(counts, 3);
+    return wz_read_file(file, len, LISTS_OF(exercise));
+}
+
+void find_list_cause(const struct exercise *exercise, uint8_t cause[WZ_NUMBER * WZ_CAUSE_NUMBERS])
+{
+    wz_find_list_cause(COUNTS_OF(exercise), LISTS_OF(exercise), cause, WZ_NUMBER * WZ_CAUSE_NUMBERS);
 }

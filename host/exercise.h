@@ -7,23 +7,25 @@
 
 #include "lists.h"
 
-#define MOST_LOCATIONS 64
-#define MOST_ROWS 2048
-#define MOST_TRANSACTIONS 256
-#define INTERVALS 12
-#define LONGEST_FILE 18821
-
 /*
  * Prices stand in stretches of a number for each location: congestion
- * day-ahead, congestion in each interval, then loss the same way.
+ * day-ahead, congestion in each interval, then loss the same way; there are
+ * WZ_LOCATION_PRICES stretches.
  */
 enum price_list { CONGESTION_PRICES, LOSS_PRICES, PRICE_LISTS };
-#define STRETCHES (PRICE_LISTS * (1 + INTERVALS))
 
 enum market { DAY_AHEAD, REAL_TIME, MARKETS };
 
 /* The numbers of a row and of a transaction, in their order. */
-enum row_number { ROW_MARKET, ROW_KIND, ROW_INTERVAL, ROW_PARTICIPANT, ROW_LOCATION, ROW_KW };
+enum row_number {
+    ROW_MARKET,
+    ROW_KIND,
+    ROW_INTERVAL,
+    ROW_PARTICIPANT,
+    ROW_LOCATION,
+    ROW_KW,
+    ROW_SPARE /* in a file alone */
+};
 enum transaction_number {
     TRANSACTION_MARKET,
     TRANSACTION_INTERVAL,
@@ -32,22 +34,22 @@ enum transaction_number {
     TRANSACTION_SINK,
     TRANSACTION_KW
 };
-#define ENTRY 6 /* numbers of either */
+#define ENTRY WZ_ROW_NUMBERS /* numbers of either */
 
 /*
  * Rows, or transactions. There is room for one more than the most of rows, and
  * what comes after that is left out: so many are refused either way.
  */
-#define ROOM (MOST_ROWS + 1)
+#define ROOM (WZ_MOST_ROWS + 1)
 
 struct entries {
     size_t count;
-    uint8_t numbers[NUMBER * ENTRY * ROOM];
+    uint8_t numbers[WZ_NUMBER * ENTRY * ROOM];
 };
 
 struct exercise {
     int64_t participants, locations;
-    uint8_t prices[NUMBER * STRETCHES * MOST_LOCATIONS];
+    uint8_t prices[WZ_NUMBER * WZ_LOCATION_PRICES * WZ_MOST_LOCATIONS];
     struct entries rows, transactions;
 };
 
@@ -60,15 +62,41 @@ int has_room_for_prices(const struct exercise *exercise);
 /* Where the stretch of a list stands: the day-ahead one, or that of an interval. */
 size_t stretch_of(enum price_list list, enum market market, size_t interval);
 
+/* The list, the market and the interval of a stretch. */
+enum price_list list_of(size_t stretch);
+enum market market_of(size_t stretch);
+size_t interval_of(size_t stretch);
+
 /* The price at a location in a stretch; only where there is room for prices. */
 int64_t price_at(const struct exercise *exercise, size_t stretch, size_t location);
 void set_price(struct exercise *exercise, size_t stretch, size_t location, int64_t mills);
+
+/* Where a price stands in the bytes of a file, by its number in the file's order. */
+#define PRICE_BYTES 3
+size_t price_place(size_t number);
+
+/*
+ * Where a row or a transaction stands in the bytes of a file with so many
+ * locations; transactions are counted on after the rows.
+ */
+#define ENTRY_BYTES 6
+size_t entry_place(size_t locations, size_t entry);
+
+/*
+ * The counts that a file's header tells of where the file hasn't the length that
+ * they make, which is given: WZ_COUNT_NUMBERS numbers.
+ */
+void counts_in_header(const uint8_t *file, size_t length, uint8_t counts[WZ_NUMBER * WZ_COUNT_NUMBERS]);
 
 /*
  * Writes the file of an hour, or reads the hour of a file. Gives WZ_OK, or the
  * engine's refusal.
  */
-uint32_t write_exercise(const struct exercise *exercise, uint8_t file[LONGEST_FILE], size_t *len);
+uint32_t write_exercise(const struct exercise *exercise, uint8_t file[WZ_LONGEST_FILE],
+                        size_t *len);
 uint32_t read_exercise(const uint8_t *file, size_t len, struct exercise *exercise);
+
+/* Asks the engine why it doesn't write the hour: the WZ_CAUSE_NUMBERS numbers of a cause. */
+void find_list_cause(const struct exercise *exercise, uint8_t cause[WZ_NUMBER * WZ_CAUSE_NUMBERS]);
 
 #endif

@@ -13,7 +13,7 @@ static size_t width_of_prices(const struct exercise *exercise)
 {
     size_t width = 0, stretch, l;
 
-    for (stretch = 0; stretch < STRETCHES; stretch++) {
+    for (stretch = 0; stretch < WZ_LOCATION_PRICES; stretch++) {
         for (l = 0; l < (size_t)exercise->locations; l++) {
             char price[UNITS_LEN];
 
@@ -59,11 +59,11 @@ static void print_price_list(const struct exercise *exercise, enum price_list li
 
     write_head(head, DAY_AHEAD, prices_of(list), 0, 0);
     print_prices(exercise, head, stretch_of(list, DAY_AHEAD, 0), width);
-    for (first = 0; first < INTERVALS; first = after) {
+    for (first = 0; first < WZ_INTERVALS; first = after) {
         size_t stretch = stretch_of(list, REAL_TIME, first);
 
         after = first + 1;
-        while (after < INTERVALS &&
+        while (after < WZ_INTERVALS &&
                same_prices(exercise, stretch, stretch_of(list, REAL_TIME, after)))
             after++;
         write_head(head, REAL_TIME, prices_of(list), (int64_t)first, (int64_t)after - 1);
@@ -134,12 +134,27 @@ static void print_entries(const struct entries *entries, size_t place,
     }
 }
 
-void print_exercise_text(const struct exercise *exercise)
+/* ---- the whole */
+
+/* Prints how many there are, and the names of those that have one. */
+static void print_count(const struct names *names, enum named named, int64_t count)
+{
+    int64_t i;
+
+    printf("%ss %" PRId64 "\n", named_word[named], count);
+    for (i = 0; i < count; i++) {
+        if (*name_of(names, named, i))
+            printf("%s %" PRId64 " is %s\n", named_word[named], i, name_of(names, named, i));
+    }
+}
+
+void print_exercise_text(const struct exercise *exercise, const struct names *names)
 {
     size_t width = width_of_prices(exercise);
 
-    printf("participants %" PRId64 "\nlocations %" PRId64 "\n\n", exercise->participants,
-           exercise->locations);
+    print_count(names, PARTICIPANT, exercise->participants);
+    print_count(names, LOCATION, exercise->locations);
+    putchar('\n');
     print_price_list(exercise, CONGESTION_PRICES, width);
     print_price_list(exercise, LOSS_PRICES, width);
     print_entries(&exercise->rows, ROW_INTERVAL, print_row);

@@ -4,6 +4,7 @@
 #include "text.h"
 #include "units.h"
 
+#include <inttypes.h>
 #include <stdio.h>
 #include <string.h>
 
@@ -15,6 +16,9 @@
 struct reading {
     struct exercise *exercise;
     struct lines *lines;
+    struct names names;        /* in the lines up to the one at hand */
+    struct names all;          /* in all lines */
+    const struct names *other; /* of other files */
 };
 
 /* What a line is about. */
@@ -45,7 +49,7 @@ static int fault_with_model(const struct text *text, const struct topic *topic, 
 {
     char head[HEAD_LEN], all[300];
 
-    write_head(head, topic->market, topic->thing, 0, INTERVALS - 1);
+    write_head(head, topic->market, topic->thing, 0, WZ_INTERVALS - 1);
     snprintf(all, sizeof all, "%s '%s %s'", why, head, rest_of(topic->thing));
     return fault(text, word, all);
 }
@@ -138,23 +142,76 @@ static int misplaced(const struct text *text, const struct topic *topic, const c
     return fault_with_model(text, topic, word, "write it as");
 }
 
-/* Reads a number, with the word before it. */
-static int read_named(struct text *text, const struct topic *topic, const char *name,
-                      int64_t *number)
+/* Whether a word, and what follows it in the line, is a name of several words. */
+static int begins_name(const struct text *text, const char *word, const char *name)
+{
+    const char *rest = text->rest;
+    size_t len = strlen(word);
+
+    if (strncmp(name, word, len) != 0 || name[len] != ' ')
+        return 0;
+    for (name += len + 1; *name; name += len + (name[len] == ' ')) {
+        rest += strspn(rest, BLANKS);
+        len = strcspn(name, " ");
+        if (strncmp(rest, name, len) != 0 || !strchr(BLANKS, rest[len]))
+            return 0;
+        rest += len;
+    }
+    return 1;
+}
+
+/* Says that a name of several words is written by its number, where the line has one; gives 0. */
+static int is_long_name(const struct text *text, const struct names *names, enum named named,
+                        const char *word)
+{
+    char why[120];
+    int64_t i = 0;
+
+    while (i < MOST_NAMED && !begins_name(text, word, names->of[named][i]))
+        i++;
+    if (i == MOST_NAMED)
+        return 0;
+    snprintf(why, sizeof why,
+             "a name of several words can't stand in a line; write the number, %s %" PRId64,
+             named_word[named], i);
+    fault(text, names->of[named][i], why);
+    return 1;
+}
+
+/* Says that a word is nobody's name; gives 0. */
+static int unknown_name(const struct text *text, const struct reading *reading, enum named named,
+                        const char *word)
+{
+    char why[160];
+
+    if (is_long_name(text, &reading->all, named, word) ||
+        is_long_name(text, reading->other, named, word))
+        return 0;
+    snprintf(why, sizeof why,
+             "no %s has this name; write its number, from 0, or give it the name in a line "
+             "'%s 0 is NAME'",
+             named_word[named], named_word[named]);
+    return fault(text, word, why);
+}
+
+/* Reads a participant or a location by its number or its name, and the word before it. */
+static int read_named(struct text *text, const struct reading *reading, const struct topic *topic,
+                      const char *before, enum named named, int64_t *number)
 {
     const char *word = next_word(text), *why;
 
     if (!word)
         return too_short(text, topic);
-    if (strcmp(word, name) != 0)
+    if (strcmp(word, before) != 0)
         return misplaced(text, topic, word);
     word = next_word(text);
     if (!word)
         return too_short(text, topic);
-    if (word[strcspn(word, DIGITS)] == '\0')
-        return fault(text, word,
-                     strcmp(name, "participant") == 0 ? "participants are told by number, from 0"
-                                                      : "locations are told by number, from 0");
+    if (find_name(&reading->all, named, word, number) ||
+        find_name(reading->other, named, word, number))
+        return 1;
+    if (!strchr(DIGITS "+-.", *word))
+        return unknown_name(text, reading, named, word);
     why = read_number(word, number);
     return !why || fault(text, word, why);
 }
@@ -180,9 +237,12 @@ static int read_last_power(struct text *text, const struct topic *topic, struct 
 
 /* ---- prices */
 
-/* Says how many prices a line has and how many it needs; gives 0. */
-static int wrong_count(const struct text *text, const struct topic *topic, size_t given,
-                       size_t locations)
+/*
+ * Says how many prices a line has and how many it needs; gives 0. The interval
+ * may be a price, where it is no range and with it there are as many as needed.
+ */
+static int wrong_count(const struct text *text, const struct topic *topic,
+                       const struct intervals *intervals, size_t given, size_t locations)
 {
     char why[160];
 
@@ -190,15 +250,24 @@ static int wrong_count(const struct text *text, const struct topic *topic, size_
              locations == 1 ? "is" : "are", locations, plural(locations));
     if (given > locations)
         return fault(text, "too many", why);
-    if (topic->market == DAY_AHEAD)
+    if (topic->market == DAY_AHEAD || given + 1 != locations || strchr(intervals->word + 1, '-'))
         return fault(text, TOO_SHORT, why);
     strcat(why, "; a real-time line has its interval, as 0-11, before the prices:");
     return fault_with_model(text, topic, TOO_SHORT, why);
 }
 
+/* Keeps the first line with a price in mills. */
+static void note_mills(const struct text *text, struct lines *lines, const char *word,
+                       int64_t mills)
+{
+    if (mills != 0 && !strchr(word, '$') && lines->without_mark == 0)
+        lines->without_mark = text->line_number;
+}
+
 /* Reads a price for each location, up to the line's end. */
 static int read_prices(struct text *text, const struct topic *topic,
-                       const struct exercise *exercise, int64_t mills[MOST_LOCATIONS])
+                       const struct intervals *intervals, struct reading *reading,
+                       int64_t mills[WZ_MOST_LOCATIONS])
 {
     size_t given = 0, locations;
     const char *word;
@@ -210,14 +279,15 @@ static int read_prices(struct text *text, const struct topic *topic,
         why = range ? range : read_price(word, &price);
         if (why)
             return fault(text, word, why);
-        if (given < MOST_LOCATIONS)
+        note_mills(text, reading->lines, word, price);
+        if (given < WZ_MOST_LOCATIONS)
             mills[given] = price;
         given++;
     }
-    if (!has_room_for_prices(exercise)) /* which is refused, whatever is here */
+    if (!has_room_for_prices(reading->exercise)) /* which is refused, whatever is here */
         return 1;
-    locations = (size_t)exercise->locations;
-    return given == locations || wrong_count(text, topic, given, locations);
+    locations = (size_t)reading->exercise->locations;
+    return given == locations || wrong_count(text, topic, intervals, given, locations);
 }
 
 /* The intervals exist, since the list of prices has no place for others, and are free. */
@@ -227,7 +297,7 @@ static int are_free(const struct text *text, const struct reading *reading,
 {
     int64_t k;
 
-    if (intervals->first < 0 || intervals->last >= INTERVALS)
+    if (intervals->first < 0 || intervals->last >= WZ_INTERVALS)
         return fault_with_model(text, topic, intervals->word,
                                 "there are intervals 0 to 11, which stand before the prices:");
     for (k = intervals->first; k <= intervals->last; k++) {
@@ -253,13 +323,13 @@ static int take_prices(struct text *text, struct reading *reading, const struct 
                        enum price_list list)
 {
     struct intervals intervals;
-    int64_t mills[MOST_LOCATIONS], k;
+    int64_t mills[WZ_MOST_LOCATIONS], k;
 
     if (reading->lines->locations == 0)
         return fault(text, "prices", "write the line 'locations' before them");
     if (!read_intervals(text, topic, &intervals) ||
         !are_free(text, reading, topic, list, &intervals) ||
-        !read_prices(text, topic, reading->exercise, mills))
+        !read_prices(text, topic, &intervals, reading, mills))
         return 0;
     for (k = intervals.first; k <= intervals.last; k++)
         keep_prices(reading, stretch_of(list, topic->market, (size_t)k), mills, text->line_number);
@@ -281,7 +351,7 @@ static void add_entries(struct entries *entries, int64_t numbers[ENTRY], size_t 
     while (entries->count < ROOM) {
         numbers[place] = interval;
         for (i = 0; i < ENTRY; i++)
-            set_number(entries->numbers, ENTRY * entries->count + i, numbers[i]);
+            wz_put(entries->numbers, ENTRY * entries->count + i, numbers[i]);
         lines[entries->count++] = line;
         if (interval == intervals->last)
             return;
@@ -295,8 +365,8 @@ static int take_row(struct text *text, struct reading *reading, const struct top
     struct intervals intervals;
 
     if (!read_intervals(text, topic, &intervals) ||
-        !read_named(text, topic, "participant", &row[ROW_PARTICIPANT]) ||
-        !read_named(text, topic, "location", &row[ROW_LOCATION]) ||
+        !read_named(text, reading, topic, "participant", PARTICIPANT, &row[ROW_PARTICIPANT]) ||
+        !read_named(text, reading, topic, "location", LOCATION, &row[ROW_LOCATION]) ||
         !read_last_power(text, topic, reading->lines, &row[ROW_KW]))
         return 0;
     add_entries(&reading->exercise->rows, row, ROW_INTERVAL, &intervals, reading->lines->rows,
@@ -311,9 +381,10 @@ static int take_transaction(struct text *text, struct reading *reading,
     struct intervals intervals;
 
     if (!read_intervals(text, topic, &intervals) ||
-        !read_named(text, topic, "participant", &transaction[TRANSACTION_PARTICIPANT]) ||
-        !read_named(text, topic, "from", &transaction[TRANSACTION_SOURCE]) ||
-        !read_named(text, topic, "to", &transaction[TRANSACTION_SINK]) ||
+        !read_named(text, reading, topic, "participant", PARTICIPANT,
+                    &transaction[TRANSACTION_PARTICIPANT]) ||
+        !read_named(text, reading, topic, "from", LOCATION, &transaction[TRANSACTION_SOURCE]) ||
+        !read_named(text, reading, topic, "to", LOCATION, &transaction[TRANSACTION_SINK]) ||
         !read_last_power(text, topic, reading->lines, &transaction[TRANSACTION_KW]))
         return 0;
     add_entries(&reading->exercise->transactions, transaction, TRANSACTION_INTERVAL, &intervals,
@@ -389,8 +460,11 @@ static int take_line(struct text *text, void *into)
 {
     struct reading *reading = into;
     const char *word = next_word(text);
+    enum named named = named_by(word);
     enum market market;
 
+    if (named < NAMED)
+        return take_name(text, named, &reading->names);
     if (strcmp(word, "participants") == 0)
         return take_count(text, word, &reading->exercise->participants,
                           &reading->lines->participants);
@@ -400,9 +474,9 @@ static int take_line(struct text *text, void *into)
         if (strcmp(word, market_word[market]) == 0)
             return take_thing(text, reading, market);
     }
-    return wrong_word(
-        text, word,
-        "no such line; one begins with participants, locations, day-ahead or real-time");
+    return wrong_word(text, word,
+                      "no such line; one begins with participants, locations, participant, "
+                      "location, day-ahead or real-time");
 }
 
 /* ---- the whole */
@@ -418,32 +492,61 @@ static int has_prices(const struct text *text, const struct lines *lines, enum p
         write_head(line, DAY_AHEAD, prices_of(list), 0, 0);
         return missing(text, line, "write a price for each location");
     }
-    while (first < INTERVALS && intervals[first] != 0)
+    while (first < WZ_INTERVALS && intervals[first] != 0)
         first++;
-    if (first == INTERVALS)
+    if (first == WZ_INTERVALS)
         return 1;
     after = first + 1;
-    while (after < INTERVALS && intervals[after] == 0)
+    while (after < WZ_INTERVALS && intervals[after] == 0)
         after++;
     write_head(line, REAL_TIME, prices_of(list), (int64_t)first, (int64_t)after - 1);
     return missing(text, line, "write a price for each location");
 }
 
-static int is_whole(const struct text *text, const struct lines *lines)
+/* Gives 0 where there is a name for one that isn't there, and has said so. */
+static int has_all_named(struct text *text, const struct names *names, enum named named,
+                         int64_t count)
 {
+    char why[80];
+    int64_t i;
+
+    for (i = count; i >= 1 && i < MOST_NAMED; i++) {
+        if (names->line[named][i] == 0)
+            continue;
+        text->line_number = names->line[named][i];
+        snprintf(why, sizeof why, "it names %s %" PRId64 ", and there %s %" PRId64 ", from 0",
+                 named_word[named], i, count == 1 ? "is" : "are", count);
+        return fault(text, names->of[named][i], why);
+    }
+    return 1;
+}
+
+static int is_whole(struct text *text, const struct reading *reading)
+{
+    const struct exercise *exercise = reading->exercise;
+    const struct lines *lines = reading->lines;
+
     if (lines->participants == 0)
         return missing(text, "participants", "write how many there are");
     if (lines->locations == 0)
         return missing(text, "locations", "write how many there are");
-    return has_prices(text, lines, CONGESTION_PRICES) && has_prices(text, lines, LOSS_PRICES);
+    return has_prices(text, lines, CONGESTION_PRICES) && has_prices(text, lines, LOSS_PRICES) &&
+           has_all_named(text, &reading->names, PARTICIPANT, exercise->participants) &&
+           has_all_named(text, &reading->names, LOCATION, exercise->locations);
 }
 
-int read_exercise_text(const char *name, struct exercise *exercise, struct lines *lines)
+int take_exercise_text(const char *name, const uint8_t *bytes, size_t len,
+                       struct exercise *exercise, struct lines *lines, struct names *names)
 {
-    struct reading reading = {exercise, lines};
-    struct text text;
+    struct reading reading = {.exercise = exercise, .lines = lines, .other = names};
+    struct text text = {.name = name, .bytes = bytes, .len = len};
 
     memset(exercise, 0, sizeof *exercise);
     memset(lines, 0, sizeof *lines);
-    return read_text(&text, name, take_line, &reading) && is_whole(&text, lines);
+    find_names(name, bytes, len, &reading.all);
+    if (!take_text(&text, take_line, &reading) || !is_whole(&text, &reading))
+        return 0;
+    add_names(&reading.names, names);
+    *names = reading.names;
+    return 1;
 }

@@ -24,19 +24,26 @@ enum thing prices_of(enum price_list list)
     return list == CONGESTION_PRICES ? PRICES_OF_CONGESTION : PRICES_OF_LOSS;
 }
 
+void write_thing(char words[HEAD_LEN], enum thing thing)
+{
+    const char *second = thing_words[thing][1];
+
+    snprintf(words, HEAD_LEN, "%s%s%s", thing_words[thing][0], second ? " " : "",
+             second ? second : "");
+}
+
 void write_head(char head[HEAD_LEN], enum market market, enum thing thing, int64_t first,
                 int64_t last)
 {
-    const char *second = thing_words[thing][1];
-    int len = snprintf(head, HEAD_LEN, "%s %s%s%s", market_word[market], thing_words[thing][0],
-                       second ? " " : "", second ? second : "");
-    char *end = head + len;
-    size_t room = HEAD_LEN - (size_t)len;
+    char words[HEAD_LEN];
+    int len;
 
+    write_thing(words, thing);
+    len = snprintf(head, HEAD_LEN, "%s %.20s", market_word[market], words);
     if (market == REAL_TIME && first == last)
-        snprintf(end, room, " %" PRId64, first);
+        snprintf(head + len, HEAD_LEN - (size_t)len, " %" PRId64, first);
     else if (market == REAL_TIME)
-        snprintf(end, room, " %" PRId64 "-%" PRId64, first, last);
+        snprintf(head + len, HEAD_LEN - (size_t)len, " %" PRId64 "-%" PRId64, first, last);
 }
 
 /* Whether a word is another one, which is in small letters, but for capital letters. */
@@ -54,7 +61,7 @@ int has_capitals(const char *word)
     static const char *const words[] = {
         "participants", "locations",   "day-ahead",  "real-time", "load",  "generation", "export",
         "import",       "decrement",   "bid",        "increment", "offer", "from",       "to",
-        "transaction",  "participant", "congestion", "prices",    "loss",  "location",
+        "transaction",  "participant", "congestion", "prices",    "loss",  "location",   "is",
     };
     size_t i = 0;
 

@@ -3,6 +3,7 @@
 #include "say.h"
 
 #include <errno.h>
+#include <stdio.h>
 #include <string.h>
 
 int is_standard(const char *name)
@@ -30,7 +31,8 @@ static int unreadable(const char *name, int reason)
     return complain_of(called(name), reason, "give the name of a file that can be read");
 }
 
-FILE *open_file(const char *name)
+/* Opens a file to be read, NULL where it can't be; it has then said why. */
+static FILE *open_file(const char *name)
 {
     FILE *file = is_standard(name) ? stdin : fopen(name, "rb");
 
@@ -39,7 +41,8 @@ FILE *open_file(const char *name)
     return file;
 }
 
-int close_file(FILE *file, const char *name)
+/* Closes a file after the last read; gives 0 where one failed, and has said why. */
+static int close_file(FILE *file, const char *name)
 {
     int failed = ferror(file), reason = errno;
 

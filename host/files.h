@@ -6,22 +6,12 @@
 
 #include <stddef.h>
 #include <stdint.h>
-#include <stdio.h>
 
 /* Whether a name is "-", standard input or output. */
 int is_standard(const char *name);
 
 /* What a file that is read is called in messages: "-" is standard input. */
 const char *called(const char *name);
-
-/* Opens a file to be read, NULL where it can't be; it has then said why. */
-FILE *open_file(const char *name);
-
-/*
- * Closes a file after the last read. Gives 1, or 0 where a read failed; it has
- * then said why.
- */
-int close_file(FILE *file, const char *name);
 
 /*
  * Reads the file's bytes, up to the room that there is for them. Gives 1, or 0
@@ -30,8 +20,9 @@ int close_file(FILE *file, const char *name);
 int read_file(const char *name, uint8_t *bytes, size_t room, size_t *len);
 
 /*
- * Writes a file of these bytes; "-" is standard output. Gives 1, or 0 where the file can't be written; it has then said why, and
- * left nothing of the bytes in it.
+ * Writes a file of these bytes; "-" is standard output. Gives 1, or 0 where the
+ * file can't be written; it has then said why, and left nothing of the bytes in
+ * it.
  */
 int write_file(const char *name, const uint8_t *bytes, size_t len);
 

@@ -1,67 +1,85 @@
 #include "hour.h"
 
-#include "exercise_file.h"
-#include "statement.h"
-#include "wunzelihle.h"
+#include "files.h"
 
-/*
- * How many participants the header tells of, and so how long the lists are: six
- * bits, less 1. A file without a header is refused, whatever this is.
- */
-static size_t participants_of(const struct exercise_file *file)
+/* Room for the bytes of a file, one more than the longest text has. */
+static uint8_t bytes[LONGEST_TEXT + 1];
+
+int is_exercise_file(const uint8_t *file, size_t len)
 {
-    return file->len > 0 ? (size_t)(file->bytes[0] >> 2) + 1 : 1;
+    uint8_t cause[WZ_NUMBER * WZ_CAUSE_NUMBERS];
+    int64_t part;
+
+    wz_find_cause(file, len, cause, sizeof cause);
+    part = wz_get(cause, WZ_CAUSE_PART);
+    return wz_get(cause, WZ_CAUSE_REFUSAL) == WZ_OK || part == WZ_PART_SURPLUS ||
+           part == WZ_PART_SHARE;
 }
 
-/* Takes a figure of every participant from its list. In an accepted hour its total fits. */
-static void take_figure(struct statement *statement, size_t figure, const uint8_t *list)
+/* Says how numbers were read that stand in a text without their unit. */
+static void say_units(const struct hour *hour)
 {
-    int64_t total = 0;
-    size_t p;
-
-    for (p = 0; p < statement->participants; p++) {
-        statement->of[p][figure] = number_at(list, p);
-        total += statement->of[p][figure];
+    if (hour->lines.without_mark != 0) {
+        begin_message(called(hour->name));
+        fprintf(stderr, "prices without $ are read as mills, first in line %zu\n",
+                hour->lines.without_mark);
     }
-    statement->total[figure] = total;
+    if (hour->lines.without_unit != 0) {
+        begin_message(called(hour->name));
+        fprintf(stderr, "power without a unit is read as kW, first in line %zu\n",
+                hour->lines.without_unit);
+    }
 }
 
-static uint32_t settle(const struct exercise_file *file, struct statement *statement)
+/* Takes the bytes as a text, and writes its exercise file in memory. */
+static int take_hour_text(struct hour *hour, size_t len)
 {
-    uint8_t list[FIGURES][NUMBER * PARTICIPANTS];
-    size_t participants = participants_of(file), len = NUMBER * participants, f;
-    uint32_t refusal = wz_settle_hour(file->bytes, file->len, list[CONGESTION], len, list[LOSS],
-                                      len, list[CREDIT], len, list[NET], len);
+    static uint8_t file[WZ_LONGEST_FILE];
 
-    if (refusal != WZ_OK)
-        return refusal;
-    statement->participants = participants;
-    for (f = 0; f < FIGURES; f++)
-        take_figure(statement, f, list[f]);
-    return WZ_OK;
+    hour->is_text = 1;
+    hour->is_cut = 0;
+    if (!may_be_text(hour->name, bytes, len) ||
+        !take_exercise_text(hour->name, bytes, len, &hour->exercise, &hour->lines, &hour->names))
+        return 0;
+    say_units(hour);
+    hour->file = file;
+    hour->len = 0;
+    hour->refusal = write_exercise(&hour->exercise, file, &hour->len);
+    return 1;
 }
 
-static enum status settle_file(const char *name, void (*print)(const struct statement *))
+/* Reads the bytes of a file. */
+static int begin_hour(const struct job *job, const char *name, struct hour *hour, size_t *len)
 {
-    struct exercise_file file;
-    struct statement statement;
-    uint32_t refusal;
-
-    if (!read_exercise_file(name, &file))
-        return STATUS_FAULT;
-    refusal = settle(&file, &statement);
-    if (refusal != WZ_OK)
-        return refuse_exercise_file(&file, refusal);
-    print(&statement);
-    return STATUS_DONE;
+    hour->name = name;
+    hour->names = job->names;
+    return read_file(name, bytes, sizeof bytes, len);
 }
 
-enum status settle_in_cents(const char *name)
+int read_hour(const struct job *job, const char *name, struct hour *hour)
 {
-    return settle_file(name, print_cents);
+    size_t len;
+
+    if (!begin_hour(job, name, hour, &len))
+        return 0;
+    if (!is_exercise_file(bytes, len) && looks_like_text(bytes, len))
+        return take_hour_text(hour, len);
+    hour->is_text = 0;
+    hour->refusal = WZ_OK;
+    hour->file = bytes;
+    hour->len = len;
+    hour->is_cut = len == sizeof bytes;
+    return 1;
 }
 
-enum status settle_in_dollars(const char *name)
+int read_hour_text(const struct job *job, const char *name, struct hour *hour)
 {
-    return settle_file(name, print_dollars);
+    size_t len;
+
+    if (!begin_hour(job, name, hour, &len))
+        return 0;
+    if (is_exercise_file(bytes, len))
+        return complain(called(name), "an exercise file already; 'wunzelihle show' prints it as "
+                                      "a text") == 0;
+    return take_hour_text(hour, len);
 }

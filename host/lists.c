@@ -4,38 +4,17 @@
 #include <inttypes.h>
 #include <string.h>
 
-int64_t number_at(const uint8_t *bytes, size_t i)
-{
-    uint64_t bits = 0;
-    int64_t number;
-    size_t k;
-
-    for (k = NUMBER; k-- > 0;)
-        bits = bits << 8 | bytes[NUMBER * i + k];
-    memcpy(&number, &bits, sizeof number); /* int64_t is two's complement */
-    return number;
-}
-
-void set_number(uint8_t *bytes, size_t i, int64_t number)
-{
-    uint64_t bits = (uint64_t)number;
-    size_t k;
-
-    for (k = 0; k < NUMBER; k++)
-        bytes[NUMBER * i + k] = (uint8_t)(bits >> 8 * k & 0xff);
-}
-
 size_t count_of(const struct list *list)
 {
-    return list->len / NUMBER;
+    return list->len / WZ_NUMBER;
 }
 
 void add_number(struct list *list, int64_t number)
 {
     if (count_of(list) == MOST_NUMBERS)
         return;
-    set_number(list->bytes, count_of(list), number);
-    list->len += NUMBER;
+    wz_put(list->bytes, count_of(list), number);
+    list->len += WZ_NUMBER;
 }
 
 void add_list(struct list *list, const struct list *more)
@@ -43,7 +22,7 @@ void add_list(struct list *list, const struct list *more)
     size_t i;
 
     for (i = 0; i < count_of(more); i++)
-        add_number(list, number_at(more->bytes, i));
+        add_number(list, wz_get(more->bytes, i));
 }
 
 const char *read_number(const char *word, int64_t *number)

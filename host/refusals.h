@@ -1,23 +1,23 @@
 /*
- * The refusals of the engine, in document 01's words.
+ * The engine's refusals, told to people.
  */
 #ifndef REFUSALS_H
 #define REFUSALS_H
 
+#include "hour.h"
+#include "job.h"
 #include "say.h"
 
-#include <stdint.h>
-
-/* When the number is given, word for word from document 01's table. */
-const char *sentence_of(uint32_t refusal);
-
-/* Says the sentence of a refusal on standard error. Gives STATUS_REFUSED. */
-enum status say_refusal(uint32_t refusal);
-
 /*
- * Prints `refused N`, as document 01's program does, and says the sentence on
- * standard error. Gives STATUS_REFUSED.
+ * Says on standard error that something is refused, by its name, with the place
+ * where there is one, and the sentence. Gives STATUS_REFUSED.
  */
-enum status refuse(uint32_t refusal);
+enum status say_refusal(const char *name, uint32_t refusal, const char *place);
+
+/* Prints the refusal as the answer, and says it, too. Gives the status. */
+enum status refuse(struct answer *answer, const char *name, uint32_t refusal, const char *place);
+
+/* The same of an hour, with the place that the engine tells of. */
+enum status refuse_hour(struct answer *answer, const struct hour *hour, uint32_t refusal);
 
 #endif

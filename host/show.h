@@ -1,12 +1,13 @@
 /*
- * An exercise file printed in the text form of its hour.
+ * An exercise file printed in the text form of its hour, or as a table.
  */
 #ifndef SHOW_H
 #define SHOW_H
 
+#include "job.h"
 #include "say.h"
 
-/* Prints the file of that name in its text form, or refuses it. */
-enum status show_as_text(const char *name);
+/* Prints the file of that name, or refuses it. */
+enum status show_hour(struct job *job, const char *name);
 
 #endif

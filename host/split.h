@@ -4,10 +4,10 @@
 #ifndef SPLIT_H
 #define SPLIT_H
 
-#include "lists.h"
+#include "job.h"
 #include "say.h"
 
-/* Splits and prints the parts in a line, or refuses. */
-enum status split(int64_t amount, const struct list *shares);
+/* Splits the first word over the others and prints the parts, or refuses. */
+enum status split_words(struct job *job);
 
 #endif

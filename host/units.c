@@ -61,7 +61,8 @@ static const char *read_dollars(const char *digits, int below_zero, int64_t *mil
     case NONE:
         return NULL;
     case TOO_MANY_PLACES:
-        return "too many places; the least price is a mill, so that dollars have up to three";
+        return "too many places; the smallest step of a price is a mill, so that dollars have up "
+               "to three";
     case TOO_LARGE:
         return "beyond 64 bits, counted in mills";
     case NO_NUMBER:
@@ -89,7 +90,7 @@ static const char *read_megawatts(const char *word, int64_t *kw)
     case NONE:
         return NULL;
     case TOO_MANY_PLACES:
-        return "too many places; the least power is a kW, so that MW have up to three";
+        return "too many places; the smallest step of power is a kW, so that MW have up to three";
     case TOO_LARGE:
         return "beyond 64 bits, counted in kW";
     case NO_NUMBER:
@@ -137,4 +138,20 @@ void dollars_text(int64_t mills, char text[UNITS_LEN])
 void megawatts_text(int64_t kw, char text[UNITS_LEN])
 {
     thousandths_text("", kw, 0, " MW", text);
+}
+
+void dollars_in_message(int64_t mills, char text[COMMAS_LEN])
+{
+    char plain[UNITS_LEN];
+
+    thousandths_text("$", mills, mills % 1000 == 0 ? 0 : 2, "", plain);
+    put_commas(plain, text);
+}
+
+void megawatts_in_message(int64_t kw, char text[COMMAS_LEN])
+{
+    char plain[UNITS_LEN];
+
+    megawatts_text(kw, plain);
+    put_commas(plain, text);
 }

@@ -6,7 +6,7 @@
 #ifndef UNITS_H
 #define UNITS_H
 
-#include <stdint.h>
+#include "figures.h"
 
 /*
  * Reads a price, 630 or $0.63 (below 0, -630 or -$0.63), in mills. Gives NULL,
@@ -27,5 +27,9 @@ int is_power_unit(const char *word);
 #define UNITS_LEN sizeof "-9223372036854775.808 MW"
 void dollars_text(int64_t mills, char text[UNITS_LEN]);
 void megawatts_text(int64_t kw, char text[UNITS_LEN]);
+
+/* The same for messages: with commas, and whole dollars without cents, such as $31,125. */
+void dollars_in_message(int64_t mills, char text[COMMAS_LEN]);
+void megawatts_in_message(int64_t kw, char text[COMMAS_LEN]);
 
 #endif

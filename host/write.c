@@ -1,132 +1,62 @@
 #include "write.h"
 
-#include "exercise_file.h"
-#include "exercise_text.h"
 #include "files.h"
+#include "place.h"
 #include "refusals.h"
-#include "wunzelihle.h"
 
 #include <stdio.h>
 #include <string.h>
+#include <sys/stat.h>
 
-/* ---- which line is refused */
+#define LONGEST_PATH 4096
+#define TEXT_END ".text"
+#define FILE_END ".exercise"
 
-/* How many prices there are. */
-static size_t prices_in(const struct exercise *exercise)
+/* ---- the file's name */
+
+/* Writes the name of the file beside a text. Gives 0 where there is none, and has said so. */
+static int name_beside(const char *text, char path[LONGEST_PATH])
 {
-    return STRETCHES * (size_t)exercise->locations;
+    size_t len = strlen(text), end = strlen(TEXT_END);
+
+    if (is_standard(text))
+        return complain(text, "standard input has no name for its file; give one with -o") == 0;
+    if (len > end && strcmp(text + len - end, TEXT_END) == 0)
+        len -= end;
+    if (len + strlen(FILE_END) >= LONGEST_PATH)
+        return complain(text, "too long a name; give the file's with -o") == 0;
+    snprintf(path, LONGEST_PATH, "%.*s%s", (int)len, text, FILE_END);
+    return 1;
 }
 
-static size_t at_most(size_t number, size_t most)
+/* ---- what stands there */
+
+static int is_regular(const char *name)
 {
-    return number < most ? number : most;
+    struct stat about;
+
+    return !is_standard(name) && stat(name, &about) == 0 && S_ISREG(about.st_mode);
 }
 
 /*
- * Whether the engine refuses the first so many of prices, rows and transactions,
- * which it tests in this order, by themselves. Other prices are 0 then.
+ * Whether a file may be written under that name: there is none of it, or it is
+ * empty, an exercise file, or something that keeps no bytes. Otherwise it gives
+ * 0, and has said so.
  */
-static int refuses_first(const struct exercise *exercise, size_t many)
+static int may_be_replaced(const char *name)
 {
-    struct exercise first = *exercise;
-    uint8_t file[LONGEST_FILE];
-    size_t len, i;
-
-    for (i = many; i < prices_in(exercise); i++)
-        set_number(first.prices, i, 0);
-    many -= at_most(many, prices_in(exercise));
-    first.rows.count = at_most(many, exercise->rows.count);
-    first.transactions.count = many - first.rows.count;
-    return write_exercise(&first, file, &len) != WZ_OK;
-}
-
-/*
- * Which of them is the first that the engine refuses, counted from 0. It is
- * refused whatever comes after it, so the stretch that it stands in is halved.
- */
-static size_t first_refused(const struct exercise *exercise)
-{
-    size_t accepted = 0;
-    size_t refused = prices_in(exercise) + exercise->rows.count + exercise->transactions.count;
-
-    while (refused - accepted > 1) {
-        size_t middle = accepted + (refused - accepted) / 2;
-
-        if (refuses_first(exercise, middle))
-            refused = middle;
-        else
-            accepted = middle;
-    }
-    return accepted;
-}
-
-/* Whether the engine refuses these counts of an hour that has nothing else in it. */
-static int refuses_counts(int64_t participants, int64_t locations)
-{
-    struct exercise empty = {.participants = participants, .locations = locations};
-    uint8_t file[LONGEST_FILE];
+    uint8_t file[WZ_LONGEST_FILE + 1]; /* a byte more, so that a longer file is none */
     size_t len;
 
-    return write_exercise(&empty, file, &len) != WZ_OK;
-}
-
-static size_t line_of_count(const struct exercise *exercise, const struct lines *lines)
-{
-    if (refuses_counts(exercise->participants, 1))
-        return lines->participants;
-    if (refuses_counts(1, exercise->locations))
-        return lines->locations;
-    if (exercise->rows.count > MOST_ROWS)
-        return lines->rows[MOST_ROWS];
-    return lines->transactions[MOST_TRANSACTIONS];
-}
-
-/* The line of a row or a transaction; rows come first. */
-static size_t line_of_entry(const struct exercise *exercise, const struct lines *lines,
-                            size_t entry)
-{
-    size_t rows = exercise->rows.count;
-
-    return entry < rows ? lines->rows[entry] : lines->transactions[entry - rows];
-}
-
-/* Says which line is refused, and of a line of prices at which location. */
-static void say_line(const char *name, const struct exercise *exercise, const struct lines *lines,
-                     uint32_t refusal)
-{
-    size_t refused, prices, locations;
-
-    fputs("host: ", stderr);
-    say_word(called(name));
-    if (refusal == WZ_LENGTH) {
-        fprintf(stderr, ": line %zu is refused\n", line_of_count(exercise, lines));
-        return;
-    }
-    refused = first_refused(exercise);
-    prices = prices_in(exercise);
-    locations = (size_t)exercise->locations;
-    if (refused < prices)
-        fprintf(stderr, ": line %zu is refused, for the price at location %zu\n",
-                lines->stretches[refused / locations], refused % locations);
-    else
-        fprintf(stderr, ": line %zu is refused\n",
-                line_of_entry(exercise, lines, refused - prices));
+    if (!is_regular(name))
+        return 1;
+    if (!read_file(name, file, sizeof file, &len))
+        return 0;
+    return len == 0 || is_exercise_file(file, len) ||
+           complain(name, "not an exercise file; give another name, or remove it first") == 0;
 }
 
 /* ---- the file */
-
-/*
- * Refuses the hour of a text. Where the file would go to standard output,
- * nothing else is printed there.
- */
-static enum status refuse_text(const char *text, const char *file, const struct exercise *exercise,
-                               const struct lines *lines, uint32_t refusal)
-{
-    enum status status = is_standard(file) ? say_refusal(refusal) : refuse(refusal);
-
-    say_line(text, exercise, lines, refusal);
-    return status;
-}
 
 static void say_count(size_t count, const char *of)
 {
@@ -134,39 +64,48 @@ static void say_count(size_t count, const char *of)
 }
 
 /* Says what was written. */
-static void say_written(const char *file, const struct exercise *exercise,
-                        const struct lines *lines, size_t len)
+static void say_written(const char *file, const struct hour *hour)
 {
-    fputs("host: ", stderr);
-    say_word(is_standard(file) ? "standard output" : file);
-    fputs(": ", stderr);
+    const struct exercise *exercise = &hour->exercise;
+
+    begin_message(is_standard(file) ? "standard output" : file);
     say_count((size_t)exercise->participants, "participant");
     say_count((size_t)exercise->locations, "location");
     say_count(exercise->rows.count, "row");
     say_count(exercise->transactions.count, "transaction");
-    fprintf(stderr, "%zu bytes", len);
-    if (lines->without_unit != 0)
-        fprintf(stderr, "; power without a unit is in kW, first in line %zu", lines->without_unit);
-    fputc('\n', stderr);
+    fprintf(stderr, "%zu bytes\n", hour->len);
 }
 
-enum status write_from_text(const char *text, const char *file)
+/*
+ * Refuses the hour of a text. Where the file would go to standard output,
+ * nothing else is printed there.
+ */
+static enum status refuse_text(struct job *job, const struct hour *hour, const char *file)
 {
-    struct exercise exercise;
-    struct lines lines;
-    uint8_t bytes[LONGEST_FILE];
-    uint32_t refusal;
-    size_t len;
+    char place[PLACE_LEN];
 
-    if (strcmp(text, file) == 0 && !is_standard(text))
+    if (!is_standard(file))
+        return refuse_hour(&job->answer, hour, hour->refusal);
+    find_place(hour, hour->refusal, place);
+    return say_refusal(hour->name, hour->refusal, place);
+}
+
+enum status write_hour(struct job *job, const char *name)
+{
+    struct hour hour;
+    char beside[LONGEST_PATH];
+    const char *file = job->output ? job->output : beside;
+
+    if (!job->output && !name_beside(name, beside))
+        return STATUS_FAULT;
+    if (strcmp(name, file) == 0 && !is_standard(name))
         return complain(file, "the file would take the place of its text; give it another name");
-    if (!read_exercise_text(text, &exercise, &lines))
+    if (!read_hour_text(job, name, &hour))
         return STATUS_FAULT;
-    refusal = write_exercise(&exercise, bytes, &len);
-    if (refusal != WZ_OK)
-        return refuse_text(text, file, &exercise, &lines, refusal);
-    if (!may_be_replaced(file) || !write_file(file, bytes, len))
+    if (hour.refusal != WZ_OK)
+        return refuse_text(job, &hour, file);
+    if (!may_be_replaced(file) || !write_file(file, hour.file, hour.len))
         return STATUS_FAULT;
-    say_written(file, &exercise, &lines, len);
+    say_written(file, &hour);
     return STATUS_DONE;
 }

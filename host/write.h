@@ -1,15 +1,17 @@
 /*
- * An exercise file written from an hour's text form.
+ * An exercise file written from an hour's text.
  */
 #ifndef WRITE_H
 #define WRITE_H
 
+#include "job.h"
 #include "say.h"
 
 /*
- * Writes the file from the text, or refuses it and says which line is refused,
- * where it can be told. A file is opened only when all of it is there.
+ * Writes the file of a text, or refuses it. The file is the one that the job
+ * names, or stands beside the text: hour.exercise of hour.text. It is opened
+ * only when all of it is there.
  */
-enum status write_from_text(const char *text, const char *file);
+enum status write_hour(struct job *job, const char *name);
 
 #endif

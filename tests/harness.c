@@ -243,15 +243,15 @@ static int holds(const struct list *list)
     size_t i;
 
     for (i = 0; i < list->block_len; i++) {
-        int outside = i < before || i >= before + list->len;
-        uint8_t byte = outside ? list->guard : list->after[i - before];
+        int is_guard = i < before || i >= before + list->len;
+        uint8_t byte = is_guard ? list->guard : list->after[i - before];
 
         if (list->block[i] == byte)
             continue;
         if (note())
             printf("    %s (%zu bytes) has %02x at byte %td, not %02x%s\n", list->name,
                    list->len, list->block[i], (ptrdiff_t)i - (ptrdiff_t)before, byte,
-                   outside ? ": that is outside" : "");
+                   is_guard ? ": that is outside" : "");
         return 0;
     }
     return 1;

@@ -1,8 +1,8 @@
 /*
- * host-texts FOLDER NAME..: tests the host's text form on exercise files,
+ * host-texts FOLDER NAME..: tests the text form of hours on exercise files,
  * NAME.exercise beside NAME.statement. Of each file that the engine reads
  *
- * - the text that the host prints is read back to the same numbers and the
+ * - the text that the program prints is read back to the same numbers and the
  *   same bytes, and printed from there it is the same text;
  * - so is a text that is written here, in other units and other ways.
  *
@@ -18,11 +18,11 @@
 #include <stdio.h>
 #include <string.h>
 
-#define LONGEST_TEXT 1000000
 
+static const struct names no_names;
 static char printed_path[1000], again_path[1000], written_path[1000];
 
-/* ---- a text of the same hour, in other ways than the host's */
+/* ---- a text of the same hour, in other ways than the program's */
 
 /* A number below `many` that nobody would guess; the same in every run. */
 static unsigned any(unsigned many)
@@ -144,7 +144,7 @@ static void put_transaction(FILE *to, const struct entries *transactions, size_t
 static int write_text(const struct exercise *exercise)
 {
     FILE *to = fopen(written_path, "wb");
-    size_t s = STRETCHES, r = 0, t = 0;
+    size_t s = WZ_LOCATION_PRICES, r = 0, t = 0;
 
     if (!to)
         return 0;
@@ -172,13 +172,24 @@ static int is_wrong(const char *name, const char *what)
     return 0;
 }
 
-/* The host's own text goes to standard output, and so to a file. */
+/* The program's own text goes to standard output, and so to a file. */
 static int print_to(const char *path, const struct exercise *exercise)
 {
     if (!freopen(path, "wb", stdout))
         return 0;
-    print_exercise_text(exercise);
+    print_exercise_text(exercise, &no_names);
     return fflush(stdout) == 0;
+}
+
+/* Reads a text by its name. */
+static int read_by_name(const char *name, struct exercise *exercise, struct lines *lines)
+{
+    static uint8_t bytes[LONGEST_TEXT];
+    struct names names = {0};
+    size_t len;
+
+    return read_file(name, bytes, sizeof bytes, &len) &&
+           take_exercise_text(name, bytes, len, exercise, lines, &names);
 }
 
 static int same_files(const char *one, const char *other)
@@ -196,10 +207,10 @@ static int comes_back(const char *text, const uint8_t *file, size_t len)
 {
     static struct exercise exercise;
     static struct lines lines;
-    uint8_t bytes[LONGEST_FILE];
+    uint8_t bytes[WZ_LONGEST_FILE];
     size_t bytes_len = 0;
 
-    return read_exercise_text(text, &exercise, &lines) &&
+    return read_by_name(text, &exercise, &lines) &&
            write_exercise(&exercise, bytes, &bytes_len) == WZ_OK && bytes_len == len &&
            memcmp(bytes, file, len) == 0 && print_to(again_path, &exercise) &&
            same_files(printed_path, again_path);
@@ -225,7 +236,7 @@ static int is_right(const char *name)
 {
     static struct exercise exercise;
     char path[1000];
-    uint8_t file[LONGEST_FILE + 1];
+    uint8_t file[WZ_LONGEST_FILE + 1];
     uint32_t expected, refusal;
     size_t len;
 

@@ -15,7 +15,7 @@ static int within(const uint8_t *list, size_t len, size_t first, size_t step, in
     size_t i;
 
     for (i = first; i < len / 8; i += step)
-        if (number_at(list, i) < low || number_at(list, i) > high)
+        if (wz_get(list, i) < low || wz_get(list, i) > high)
             return 0;
     return 1;
 }
@@ -29,9 +29,9 @@ static void share_out(int64_t kw, const uint8_t *shares, size_t count, int64_t *
 
     right_split(kw, shares, 8 * count, parts, 8 * count);
     for (i = 0; i < count; i++) {
-        to[i * step] += number_at(parts, i);
+        to[i * step] += wz_get(parts, i);
         if (from)
-            from[i] -= number_at(parts, i);
+            from[i] -= wz_get(parts, i);
     }
 }
 
@@ -96,11 +96,11 @@ uint32_t wz_assign_load(int64_t metered, int64_t distributor,
         share_out(total, loads, buses, rest, 1, NULL);
     } else {
         for (b = 0; b < buses; b++)
-            rest[b] = number_at(loads, b);
+            rest[b] = wz_get(loads, b);
     }
 
     for (i = 0; i < count; i++) {
-        contract_kw[i] = number_at(contracts, 3 * i + 2);
+        contract_kw[i] = wz_get(contracts, 3 * i + 2);
         if (MISTAKE == CONTRACTS_TOGETHER && i > 0 &&
             memcmp(contracts + 24 * i, contracts + 24 * (i - 1), 16) == 0) {
             contract_kw[i] += contract_kw[i - 1];
@@ -108,8 +108,8 @@ uint32_t wz_assign_load(int64_t metered, int64_t distributor,
         }
     }
     for (i = 0; i < count; i++) {
-        size_t supplier = (size_t)number_at(contracts, 3 * i);
-        size_t area = (size_t)number_at(contracts, 3 * i + 1);
+        size_t supplier = (size_t)wz_get(contracts, 3 * i);
+        size_t area = (size_t)wz_get(contracts, 3 * i + 1);
 
         share_out(contract_kw[i], area_parts + 8 * area * buses, buses, kw + supplier * buses, 1,
                   rest);
@@ -125,6 +125,6 @@ uint32_t wz_assign_load(int64_t metered, int64_t distributor,
             share_out(rest[b], tranches, PARTICIPANTS, kw + b, buses, NULL);
     }
     for (i = 0; i < PARTICIPANTS * buses; i++)
-        put_at(out, i, kw[i]);
+        wz_put(out, i, kw[i]);
     return WZ_OK;
 }

@@ -1,7 +1,6 @@
 /*
- * The one place where a stand-in over load.h, hour.h, exercise.h, write.h or
- * read.h goes wrong. It defines MISTAKE as one of these before it includes the
- * body.
+ * The one place where a stand-in over a body, CALL.h, goes wrong. It defines
+ * MISTAKE as one of these before it includes the body.
  */
 #ifndef MISTAKE_H
 #define MISTAKE_H
@@ -57,7 +56,38 @@ enum {
     /* of reading */
     LISTS_LONGER,
     PRICES_UNSIGNED,
-    SHARES_WANTED
+    SHARES_WANTED,
+    /* of participants and counts */
+    HEADER_CUT,
+    LOCATIONS_COUNTED,
+    REST_TESTED,
+    /* of both causes */
+    ANSWERS_THE_REFUSAL,
+    CAUSE_LONGER,
+    COUNTED_FROM_1,
+    FOUND_FOR_MOST,
+    KINDS_OF_DAY_AHEAD,
+    LAST_REFUSED,
+    LEAST_AND_MOST_EXCHANGED,
+    REFUSAL_ALONE,
+    SINK_AS_SOURCE,
+    /* of the cause of a file */
+    ACCEPTED_LEFT,
+    COUNTED_BEHIND_ROWS,
+    HEADER_IS_ENOUGH,
+    KW_FOR_SPARE,
+    LAST_SHARE,
+    LENGTH_FOR_FOUND,
+    NO_SHARES_AS_RANGE,
+    PRICES_BY_LOCATION,
+    SHARES_FIRST,
+    SHARES_UNNAMED,
+    SHARES_UNTOLD,
+    SURPLUS_UNTOLD,
+    /* of the cause of lists */
+    BELOW_ZERO_AS_0,
+    COUNTS_FROM_0,
+    LENGTHS_IN_NUMBERS
 };
 
 #endif

@@ -1,6 +1,5 @@
 /* wz_read_file in C, right but for its MISTAKE. */
 #include "exercise.h"
-#include "split.h"
 
 /* The list has so many numbers. */
 static int has_numbers(size_t len, size_t count)
@@ -28,7 +27,7 @@ static void list_prices(uint8_t *list, const uint8_t *file, const struct header 
         size_t from = MISTAKE == LOSS_FIRST ? (i + count / 2) % count : i;
         int64_t price = price_at(file, from);
 
-        put_at(list, i, MISTAKE == PRICES_UNSIGNED ? price & 0xffffff : price);
+        wz_put(list, i, MISTAKE == PRICES_UNSIGNED ? price & 0xffffff : price);
     }
 }
 
@@ -36,22 +35,22 @@ static void list_row(uint8_t *six, const struct row *row)
 {
     size_t exchanged = MISTAKE == FIELDS_EXCHANGED;
 
-    put_at(six, 0, row->market);
-    put_at(six, 1 + exchanged, row->kind);
-    put_at(six, 2 - exchanged, row->interval);
-    put_at(six, 3, row->participant);
-    put_at(six, 4, row->location);
-    put_at(six, 5, row->kw);
+    wz_put(six, 0, row->market);
+    wz_put(six, 1 + exchanged, row->kind);
+    wz_put(six, 2 - exchanged, row->interval);
+    wz_put(six, 3, row->participant);
+    wz_put(six, 4, row->location);
+    wz_put(six, 5, row->kw);
 }
 
 static void list_transaction(uint8_t *six, const struct row *row)
 {
-    put_at(six, 0, row->market);
-    put_at(six, 1, row->interval);
-    put_at(six, 2, row->participant);
-    put_at(six, 3, row->location);
-    put_at(six, 4, row->sink);
-    put_at(six, 5, row->kw);
+    wz_put(six, 0, row->market);
+    wz_put(six, 1, row->interval);
+    wz_put(six, 2, row->participant);
+    wz_put(six, 3, row->location);
+    wz_put(six, 4, row->sink);
+    wz_put(six, 5, row->kw);
 }
 
 /* There is real-time load or an export. */

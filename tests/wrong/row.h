@@ -1,7 +1,6 @@
 /* The decoding of one row in C, right but for its MISTAKE. */
 #include "exercise.h"
 #include "probe.h"
-#include "split.h"
 
 uint32_t probe_row(int64_t participants, int64_t locations,
                    const uint8_t *row, size_t row_len,
@@ -18,11 +17,11 @@ uint32_t probe_row(int64_t participants, int64_t locations,
     answer = read_row(&decoded, row, participants, locations);
     if (answer != WZ_OK)
         return answer;
-    put_at(fields, 0, decoded.market);
-    put_at(fields, 1, decoded.kind);
-    put_at(fields, 2, decoded.interval);
-    put_at(fields, 3, decoded.participant);
-    put_at(fields, 4, decoded.location);
-    put_at(fields, 5, decoded.kw);
+    wz_put(fields, 0, decoded.market);
+    wz_put(fields, 1, decoded.kind);
+    wz_put(fields, 2, decoded.interval);
+    wz_put(fields, 3, decoded.participant);
+    wz_put(fields, 4, decoded.location);
+    wz_put(fields, 5, decoded.kw);
     return WZ_OK;
 }

@@ -12,7 +12,7 @@ uint32_t wz_split(int64_t amount, const uint8_t *shares, size_t shares_len, uint
         return answer;
     total = total_of(shares, count);
     for (i = 0; i < count; i++) {
-        int64_t product = amount * number_at(shares, i);
+        int64_t product = amount * wz_get(shares, i);
 
         part[i] = product / total - (product % total != 0);
         remainder[i] = product - part[i] * total;
@@ -20,6 +20,6 @@ uint32_t wz_split(int64_t amount, const uint8_t *shares, size_t shares_len, uint
     }
     give_left(part, remainder, count, left);
     for (i = 0; i < count; i++)
-        put_at(parts, i, part[i]);
+        wz_put(parts, i, part[i]);
     return answer;
 }

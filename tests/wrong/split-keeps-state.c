@@ -8,7 +8,7 @@ uint32_t wz_split(int64_t amount, const uint8_t *shares, size_t shares_len, uint
     uint32_t answer = right_split(amount, shares, shares_len, parts, parts_len);
 
     if (answer == WZ_OK && amount == last)
-        put_at(parts, 0, 0);
+        wz_put(parts, 0, 0);
     last = amount;
     return answer;
 }

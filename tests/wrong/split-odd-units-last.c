@@ -12,11 +12,11 @@ uint32_t wz_split(int64_t amount, const uint8_t *shares, size_t shares_len, uint
         return answer;
     total = total_of(shares, count);
     for (i = 0; i + 1 < count; i++) {
-        int64_t part = amount * number_at(shares, i) / total;
+        int64_t part = amount * wz_get(shares, i) / total;
 
-        put_at(parts, i, part);
+        wz_put(parts, i, part);
         left -= part;
     }
-    put_at(parts, count - 1, left);
+    wz_put(parts, count - 1, left);
     return answer;
 }

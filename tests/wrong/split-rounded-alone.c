@@ -12,9 +12,9 @@ uint32_t wz_split(int64_t amount, const uint8_t *shares, size_t shares_len, uint
         return answer;
     total = total_of(shares, count);
     for (i = 0; i < count; i++) {
-        int64_t twice = 2 * amount * number_at(shares, i);
+        int64_t twice = 2 * amount * wz_get(shares, i);
 
-        put_at(parts, i, (twice + (amount < 0 ? -total : total)) / (2 * total));
+        wz_put(parts, i, (twice + (amount < 0 ? -total : total)) / (2 * total));
     }
     return answer;
 }

@@ -7,31 +7,13 @@
 
 #include "wunzelihle.h"
 
-static inline int64_t number_at(const uint8_t *list, size_t i)
-{
-    uint64_t number = 0;
-    size_t k;
-
-    for (k = 8; k-- > 0;)
-        number = number << 8 | list[8 * i + k];
-    return (int64_t)number;
-}
-
-static inline void put_at(uint8_t *list, size_t i, int64_t number)
-{
-    size_t k;
-
-    for (k = 0; k < 8; k++)
-        list[8 * i + k] = (uint8_t)((uint64_t)number >> 8 * k);
-}
-
 static inline int64_t total_of(const uint8_t *shares, size_t count)
 {
     int64_t total = 0;
     size_t i;
 
     for (i = 0; i < count; i++)
-        total += number_at(shares, i);
+        total += wz_get(shares, i);
     return total;
 }
 
@@ -60,7 +42,7 @@ static inline uint32_t right_split(int64_t amount, const uint8_t *shares, size_t
     if (amount < -1000000000 || amount > 1000000000)
         return WZ_RANGE;
     for (i = 0; i < count; i++)
-        if (number_at(shares, i) < 0 || number_at(shares, i) > 4000000000)
+        if (wz_get(shares, i) < 0 || wz_get(shares, i) > 4000000000)
             return WZ_RANGE;
     total = total_of(shares, count);
     if (total == 0 && amount != 0)
@@ -68,13 +50,13 @@ static inline uint32_t right_split(int64_t amount, const uint8_t *shares, size_t
 
     size = left = amount < 0 ? -amount : amount;
     for (i = 0; i < count; i++) {
-        part[i] = total ? size * number_at(shares, i) / total : 0;
-        remainder[i] = total ? size * number_at(shares, i) % total : 0;
+        part[i] = total ? size * wz_get(shares, i) / total : 0;
+        remainder[i] = total ? size * wz_get(shares, i) % total : 0;
         left -= part[i];
     }
     give_left(part, remainder, count, left);
     for (i = 0; i < count; i++)
-        put_at(parts, i, amount < 0 ? -part[i] : part[i]);
+        wz_put(parts, i, amount < 0 ? -part[i] : part[i]);
     return WZ_OK;
 }
 

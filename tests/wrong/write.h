@@ -1,6 +1,5 @@
 /* wz_write_file in C, right but for its MISTAKE. */
 #include "exercise.h"
-#include "split.h"
 
 #include <string.h>
 
@@ -13,7 +12,7 @@ struct given_hour {
 
 static int64_t given_at(const uint8_t *list, size_t i)
 {
-    int64_t number = number_at(list, i);
+    int64_t number = wz_get(list, i);
 
     return MISTAKE == LOW_HALVES ? (int32_t)number : number;
 }

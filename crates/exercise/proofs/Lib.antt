@@ -15,3 +15,4 @@ pub mod Exact
 pub mod Turns
 pub mod Lists
 pub mod Round
+pub mod Causes

@@ -74,3 +74,8 @@ part-length from to file h l = simp (length-take, length-drop) (omega arith)
 pub some-participant : (file : List ℕ) → 1 ≤ header file .participants
 unfolding header
 some-participant file = omega arith
+
+-- .. and a location
+pub some-location : (file : List ℕ) → 1 ≤ header file .locations
+unfolding header
+some-location file = omega arith

@@ -6,8 +6,10 @@ pub mod Decoding
 pub mod Inside
 pub mod Written
 pub mod Lists
+pub mod Cause
 pub mod CasesFile
 pub mod CasesWritten
 pub mod CasesLists
+pub mod CasesCause
 pub mod CasesDecoding
 pub mod CasesHour

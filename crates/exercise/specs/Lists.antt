@@ -7,7 +7,7 @@ use lib.Dec.{leb, eqb}
 use lib.IntN.{ℤ, pos}
 use lib.ListN.{length, drop}
 use Rattle.ints.specs.Number.{between}
-use Rattle.ints.specs.Refusal.{unless, lent}
+use Rattle.ints.specs.Refusal.{pick, unless, lent}
 use Rattle.ints.specs.Table.{tab}
 use Rattle.ints.specs.Turn.{_then_}
 use Rattle.ints.specs.Twos.{bitsOf}
@@ -17,9 +17,10 @@ use Rattle.hour.specs.Order.{contentRefusal}
 use Rattle.hour.specs.declared.Row.{Row}
 use Rattle.hour.specs.declared.Transaction.{Transaction}
 use Rattle.exercise.specs.Decoding.{countOf}
-use Rattle.exercise.specs.File.{header, hourOf}
+use Rattle.exercise.specs.File.{headerSize, header, hourOf}
 use Rattle.exercise.specs.Order.{frameRefusal, spareOf, fileRefusal, inBytes}
 use Rattle.exercise.specs.Written.{fileOf}
+use Rattle.exercise.specs.declared.Header.{Header}
 
 -- ---- handed over, to be written
 
@@ -149,6 +150,20 @@ rowsListed hour = encoded (inTurns rowNumbers (hour .rows))
 
 abbrev pub transactionsListed : Hour → List ℕ
 transactionsListed hour = encoded (inTurns transactionNumbers (hour .transactions))
+
+-- the counts of a header, and a slice that is lent for them: the order for an hour to the file's length, then 1 in the place of the output lists
+abbrev pub countNumbers : Header → List ℤ
+countNumbers h = pos (h .participants) ∷ pos (h .locations) ∷ pos (h .rows) ∷ pos (h .transactions) ∷ []
+
+unfoldable pub fileCountsRefusal : List ℕ → ℕ → ℕ
+fileCountsRefusal file bytes = frameRefusal file then unless (eqb bytes (inBytes 4)) 1 0
+
+abbrev pub fileCountsOutcome : List ℕ → List ℕ → List ℕ
+fileCountsOutcome file old = lent (fileCountsRefusal file (length old)) (encoded (countNumbers (header file))) old
+
+-- how many participants a file's header tells of, 1 to 64; 0 for a file that is too short for a header
+abbrev pub participantsOf : List ℕ → ℕ
+participantsOf file = pick (leb headerSize (length file)) (header file .participants) 0
 
 -- what is handed over to write a file again: the counts of its header, and the three lists that it is read as
 abbrev pub contentOf : List ℕ → Content

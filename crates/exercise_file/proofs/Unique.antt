@@ -8,6 +8,7 @@ use Rattle.exercise.specs.declared.Header.{Header}
 use Rattle.exercise.specs.declared.Places.{Places}
 use Rattle.exercise_file.proofs.check.Reads as check
 use Rattle.exercise_file.proofs.content_refusal.Reads as content-refusal
+use Rattle.exercise_file.proofs.participants.Reads as participants
 use Rattle.exercise_file.proofs.places_of.Reads as places-of
 use Rattle.exercise_file.proofs.read_header.Reads as read-header
 use Rattle.exercise_file.proofs.rows_stretch.Reads as rows-stretch
@@ -30,3 +31,6 @@ check-unique κs a r s e f p q = unique p q
 
 pub rows-stretch-unique : (κs : Lfts 1) (a : _) (r s : _) (e f : _) → rows-stretch.Post κs a r e → rows-stretch.Post κs a s f → (r .now ≡ s .now) × (r .ptr .0 ≡ s .ptr .0) × (r .ptr .1 ≡ s .ptr .1)
 rows-stretch-unique κs a r s e f p q = (unique (p .0) (q .0), unique (p .1 .0) (q .1 .0), unique (p .1 .1) (q .1 .1))
+
+pub participants-unique : (κs : Lfts 1) (a : _) (r s : ℕ) (e f : _) → participants.Post κs a r e → participants.Post κs a s f → r ≡ s
+participants-unique κs a r s e f p q = unique p q

@@ -5,6 +5,7 @@ ghost use lib.ListN.{length};
 ghost use Rattle.exercise.specs.Packed.{bytesAt};
 ghost use Rattle.exercise.specs.File.{headerOf, header, placesOf, hourOf};
 ghost use Rattle.exercise.specs.Inside.{Small};
+ghost use Rattle.exercise.specs.Lists.{participantsOf};
 ghost use Rattle.exercise.specs.Order.{headerRefusal, frameRefusal, spareOf, fileRefusal};
 ghost use Rattle.exercise.specs.Reader.{stretch, stretchStart};
 ghost use Rattle.hour.specs.Order.{contentRefusal};
@@ -38,6 +39,16 @@ pub fn read_header(file: &[u8]) -> Header
     ensures { λ r. ⌜ r ≡ header (now (file .entry)) ⌝ }
 {
     header_of(five_at(file, 0))
+}
+
+// How many participants a file's header tells of, 0 where it has none.
+pub fn participants(file: &[u8]) -> u32
+    ensures { λ r. ⌜ r ≡ participantsOf (now (file .entry)) ⌝ }
+{
+    if file.len() < 5 {
+        return 0;
+    }
+    read_header(file).participants as u32
 }
 
 // Where the parts of a file with such a header stand.

@@ -6,8 +6,10 @@ ghost use Rattle.ints.specs.Refusal.{lent};
 ghost use Rattle.ints.specs.Table.{tab};
 ghost use Rattle.numbers.specs.Bytes.{encoded};
 ghost use Rattle.exercise.specs.File.{header, priceAt, hourOf};
-ghost use Rattle.exercise.specs.Lists.{readRefusal, rowNumbers, transactionNumbers, pricesListed, rowsListed, transactionsListed};
+ghost use Rattle.exercise.specs.Lists.{countNumbers, fileCountsRefusal, fileCountsOutcome, readRefusal, rowNumbers, transactionNumbers, pricesListed, rowsListed, transactionsListed};
+ghost use Rattle.exercise.specs.Inside.{Small};
 ghost use Rattle.exercise_read.specs.Inside.{numbersAt, listedAt, Long};
+use exercise::Header;
 use hour::Row;
 use hour::Transaction;
 
@@ -142,5 +144,38 @@ pub fn read_file(
         return refusal;
     }
     put_lists(file, prices, row_list, transaction_list);
+    0
+}
+
+// ---- counts
+
+// The four counts of a header.
+fn put_counts(header: Header, counts: &mut [u8])
+    requires { ⌜ Small header ⌝ }
+    requires { ⌜ length (now counts) ≡ 32 ⌝ }
+    ensures { λ _. ⌜ now (counts .exit) ≡ encoded (countNumbers header) ⌝ }
+{
+    let four = [
+        header.participants as i64,
+        header.locations as i64,
+        header.rows as i64,
+        header.transactions as i64,
+    ];
+    numbers::write_all(&four, counts);
+}
+
+// The counts of a file that passes the order to its length, or its refusal.
+pub fn read_counts(file: &[u8], counts: &mut [u8]) -> u32
+    ensures { λ r. ⌜ r ≡ fileCountsRefusal (now (file .entry)) (length (now (counts .entry))) ⌝ }
+    ensures { λ _. ⌜ now (counts .exit) ≡ fileCountsOutcome (now (file .entry)) (now (counts .entry)) ⌝ }
+{
+    let refusal = exercise_file::frame_refusal(file);
+    if refusal != 0 {
+        return refusal;
+    }
+    if counts.len() != 32 {
+        return 1;
+    }
+    put_counts(exercise_file::read_header(file), counts);
     0
 }

@@ -13,6 +13,7 @@ use Rattle.exercise_rows.proofs.decode_transaction.Reads as decode-tran
 use Rattle.exercise_rows.proofs.read_row.Reads as read-row
 use Rattle.exercise_rows.proofs.read_transaction.Reads as read-transaction
 use Rattle.exercise_rows.proofs.row_at.Reads as row-at
+use Rattle.exercise_rows.proofs.row_spare.Reads as row-spare
 use Rattle.exercise_rows.proofs.decoded_row_refusal.Reads as decoded-row-refusal
 use Rattle.exercise_rows.proofs.rows_refusal.Reads as rows-refusal
 use Rattle.exercise_rows.proofs.three_at.Reads as three-at
@@ -52,3 +53,6 @@ decode-row-unique κs a r s e f p q = unique p q
 
 pub decode-transaction-unique : (κs : Lfts 1) (a : _) (r s : DecodedTransaction) (e f : _) → decode-transaction.Post κs a r e → decode-transaction.Post κs a s f → r ≡ s
 decode-transaction-unique κs a r s e f p q = unique p q
+
+pub row-spare-unique : (κs : Lfts 1) (a : _) (r s : ℕ) (e f : _) → row-spare.Post κs a r e → row-spare.Post κs a s f → r ≡ s
+row-spare-unique κs a r s e f p q = unique p q

@@ -4,7 +4,7 @@ ghost use Prim.Native.Nat.{_+_, _*_, _≤_, _<_};
 ghost use lib.ListN.{length};
 ghost use Rattle.ints.specs.Turn.{inTurn};
 ghost use Rattle.exercise.specs.Packed.{bytesAt};
-ghost use Rattle.exercise.specs.File.{rowOf, rowAt, transactionOf, transactionAt};
+ghost use Rattle.exercise.specs.File.{rowOf, rowAt, rowSpare, packedRow, transactionOf, transactionAt};
 ghost use Rattle.exercise.specs.Decoding.{decodedRowRefusal, decodedTransactionRefusal, givenRefusal, decodedRow, decodedTransaction};
 ghost use Rattle.exercise_rows.specs.Inside.{refusalAt, aloneRefusal};
 ghost use Rattle.exercise.specs.Inside.{decodedRowAt, decodedTransactionAt, rowsInRefusal, transactionsInRefusal};
@@ -66,6 +66,14 @@ pub fn read_row(rows: &[u8], i: usize) -> Row
     ensures { λ r. ⌜ r ≡ rowAt (now (rows .entry)) i ⌝ }
 {
     row_of(six_at(rows, 6 * i))
+}
+
+// Its spare bits.
+pub fn row_spare(rows: &[u8], i: usize) -> u64
+    requires { ⌜ 6 * i + 6 ≤ length (now rows) ⌝ }
+    ensures { λ r. ⌜ r ≡ rowSpare (packedRow (now (rows .entry)) i) ⌝ }
+{
+    six_at(rows, 6 * i) / 1 % 8
 }
 
 // The same, tested.

@@ -49,7 +49,7 @@ cents-most x f = omega (arith, size-signed (below0 x) (wholeCents (natAbs x)), n
 -- ---- the order, from the split's
 
 -- where no share is below 0, the split's range says no more than its upper end
-in-range : (k : ℕ) (list : List ℤ) → Natural list → all (between (pos 0) (pos k)) list ≡ all (notAbove k) list
+pub in-range : (k : ℕ) (list : List ℤ) → Natural list → all (between (pos 0) (pos k)) list ≡ all (notAbove k) list
 unfolding all
 in-range k [] none = refl
 in-range k (x ∷ xs) (e, more) = ap₂ (λ (low rest : Bool). (low && leZ x (pos k)) && rest) e (in-range k xs more)

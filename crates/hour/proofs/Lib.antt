@@ -6,5 +6,6 @@ pub mod Sign
 pub mod Tested
 pub mod Credits
 pub mod Billed
+pub mod Causes
 pub mod Theorems
 pub mod Each

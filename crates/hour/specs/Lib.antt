@@ -2,9 +2,12 @@ pub mod Hour
 pub mod Charges
 pub mod Surplus
 pub mod Order
+pub mod Cause
 pub mod InsideTested
+pub mod InsideCause
 pub mod InsideParts
 pub mod InsideTotals
 pub mod CasesCharges
 pub mod CasesSurplus
 pub mod CasesOrder
+pub mod CasesCause

@@ -38,3 +38,14 @@ pub struct Transaction {
     pub sink: u16,
     pub kw: Kw,
 }
+
+// Why something is refused: which number it is, what stands there, and from where to where it may go (specs/Cause).
+pub struct Cause {
+    pub refusal: u32,
+    pub part: u32,
+    pub number: u32,
+    pub field: u32,
+    pub found: i64,
+    pub least: i64,
+    pub most: i64,
+}

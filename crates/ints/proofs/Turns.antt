@@ -40,6 +40,14 @@ module _ (earlier later : ℕ) where
       by true t = (eqb-true earlier 0 t, sym (ap (λ (b : Bool). pick b later earlier) t) ∙ e)
       by false t = absurd (eqb-false earlier 0 t (sym (ap (λ (b : Bool). pick b later earlier) t) ∙ e))
 
+-- what follows an order counts only where that gives no refusal
+pub then-under : (a x y : ℕ) → (a ≡ 0 → x ≡ y) → (a then x) ≡ (a then y)
+then-under a x y h = by (eqb a 0) refl
+  where
+    by : (t : Bool) → eqb a 0 ≡ t → pick t x a ≡ pick t y a
+    by true e = h (eqb-true a 0 e)
+    by false e = refl
+
 -- ---- in turn
 
 module _ (f : ℕ → ℕ) where
@@ -84,7 +92,7 @@ then-nothing a = by (eqb a 0) refl
     by true e = sym (eqb-true a 0 e)
     by false e = refl
 
-then-assoc : (a b c : ℕ) → (a then b then c) ≡ ((a then b) then c)
+pub then-assoc : (a b c : ℕ) → (a then b then c) ≡ ((a then b) then c)
 then-assoc a b c = by (eqb a 0) refl
   where
     by : (t : Bool) → eqb a 0 ≡ t → pick t (b then c) a ≡ (pick t b a then c)

@@ -6,6 +6,7 @@ use Prim.Native.Nat.{ℕ}
 use contract.Lifetimes.{Lfts}
 use lib.IntN.{ℤ}
 use Rattle.ints.proofs.Unique.{unique}
+use Rattle.numbers.proofs.from_word.Reads as from-word
 use Rattle.numbers.proofs.is_list.Reads as is-list
 use Rattle.numbers.proofs.number_at.Reads as number-at
 use Rattle.numbers.proofs.put_number.Reads as put-number
@@ -30,3 +31,6 @@ write-all-unique κs a r s e f p q = unique p q
 
 pub is-list-unique : (a : _) (r s : Bool) (e f : _) → is-list.Post tt a r e → is-list.Post tt a s f → r ≡ s
 is-list-unique a r s e f p q = unique p q
+
+pub from-word-unique : (a : _) (r s : ℤ) (e f : _) → from-word.Post tt a r e → from-word.Post tt a s f → r ≡ s
+from-word-unique a r s e f p q = unique p q

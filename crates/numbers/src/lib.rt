@@ -42,7 +42,7 @@ fn put_word(out: &mut [u8], u: u64)
 }
 
 // The number of 64 bits. `!x` is -x - 1.
-fn from_word(u: u64) -> i64
+pub fn from_word(u: u64) -> i64
     ensures { λ r. ⌜ r ≡ twos 64 u ⌝ }
 {
     if u < 9223372036854775808 {

@@ -1,4 +1,5 @@
--- What document 00 demands of the five calls of the C server, in its own words, and what document 02, ticket 1, promises of writing a file: read this page first.
+-- What document 00 demands of the calls of the C server, in its own words, what document 02, ticket 1, promises of writing a file, and that a cause tells the refusal's own
+-- number: read this page first.
 --
 -- `F.Post κs args answer exit` is the contract of call F, and rt proves of its code that every call which meets `F.Pre` ends and leaves `F.Post`:
 -- `args` are the arguments, `answer` is 0 where the call is accepted and else its refusal, `exit` has the lent slices as they are left.
@@ -7,15 +8,18 @@
 -- The definitions stand in the specs/ that are named below. The check of a file, its reader, the decoding of a row and the statement are entries, too: each one's contract
 -- is one definition, of crates `exercise` and `statement`. Assumes nothing.
 use mathlib.Core.Path.{_≡_, refl, sym, ap, ap₂, _∙_, subst}
+use mathlib.Core.Logic.{_⊎_}
+use mathlib.Core.Bool.{false}
 use mathlib.Core.List.{List, [], _∷_, _++_}
 use Prim.Native.Nat.{ℕ, _+_, _*_, _/_, _≤_, _<_}
 use contract.Lifetimes.{Lfts}
 use lib.IntN.{ℤ, pos, _+ℤ_, _-ℤ_}
 use lib.ListN.{length, drop}
+use Rattle.ints.specs.Number.{between}
 use Rattle.ints.specs.Sum.{sum}
 use Rattle.ints.specs.Table.{_at_}
 use Rattle.ints.proofs.Refusals.{lent-result, lent-before}
-use Rattle.numbers.specs.Bytes.{Bytes, numbers}
+use Rattle.numbers.specs.Bytes.{Bytes, numbers, encoded}
 use Rattle.units.specs.Units.{centsOf}
 use Rattle.split.specs.Fair.{Fair}
 use Rattle.split.specs.Split as split
@@ -26,31 +30,41 @@ use Rattle.load.specs.Load.{LoadGiven, assignment}
 use Rattle.load.specs.Order.{loadRefusal}
 use Rattle.load.proofs.Kilowatts.{assignment-within}
 use Rattle.load.proofs.Theorems.{demand-3}
+use Rattle.hour.specs.Cause.{causeNumbers}
 use Rattle.hour.specs.Charges as hour
 use Rattle.hour.specs.Hour.{Hour, allPrices, congestionPrices, lossPrices, positions}
 use Rattle.hour.specs.InsideTested.{Sound}
-use Rattle.hour.specs.Order.{surplusRefusal}
+use Rattle.hour.specs.Order.{outputsRefusal, surplusRefusal}
 use Rattle.hour.specs.Surplus as surplus
+use Rattle.hour.specs.declared.Cause.{Cause}
 use Rattle.hour.proofs.Each.{congestion-at, loss-at, net-at}
 use Rattle.hour.proofs.Theorems as hour-laws
+use Rattle.exercise.specs.Cause.{hourCause, givenCause, fileNumbers, givenNumbers, causeRefusal}
 use Rattle.exercise.specs.File.{header, hourOf}
-use Rattle.exercise.specs.Lists.{Content, content, hourGiven, listsRefusal, writeRefusal, writeOutcome, readRefusal, rowNumbers, transactionNumbers, inTurns, pricesListed, rowsListed, transactionsListed, contentOf, Holds}
-use Rattle.exercise.specs.Order.{inBytes, fileRefusal, hourRefusal}
+use Rattle.exercise.specs.Lists.{Content, content, participantsOf, countNumbers, fileCountsRefusal, hourGiven, listsRefusal, writeRefusal, writeOutcome, readRefusal, rowNumbers, transactionNumbers, inTurns, pricesListed, rowsListed, transactionsListed, contentOf, Holds}
+use Rattle.exercise.specs.Order.{inBytes, frameRefusal, fileRefusal, hourRefusal}
 use Rattle.exercise.specs.Written.{fileOf, FitsFields}
 use Rattle.exercise.proofs.Accepted.{settled-sound, settled-accepts}
+use Rattle.exercise.proofs.Causes as causes
 use Rattle.exercise.proofs.Lists as lists
 use Rattle.exercise.proofs.Round as round
 use Rattle.wunzelihle.specs.Load.{loadBytesGiven, loadBytesRefusal}
 use Rattle.wunzelihle.specs.Split.{splitBytesRefusal}
+use Rattle.wunzelihle.specs.Version.{version}
 use Rattle.wunzelihle.proofs.InsideDemands.{unchanged, holds, fair-of, split-accepts, load-accepts}
-use Rattle.wunzelihle.proofs.Unique.{wz-split-unique, wz-assign-load-unique, wz-settle-hour-unique, wz-write-file-unique, wz-read-file-unique}
+use Rattle.wunzelihle.proofs.Unique.{wz-split-unique, wz-assign-load-unique, wz-settle-hour-unique, wz-write-file-unique, wz-read-file-unique, wz-counts-unique, wz-find-cause-unique, wz-find-list-cause-unique}
 use Rattle.wunzelihle.proofs.wz_assign_load.Reads as wz-assign-load
+use Rattle.wunzelihle.proofs.wz_counts.Reads as wz-counts
+use Rattle.wunzelihle.proofs.wz_find_cause.Reads as wz-find-cause
+use Rattle.wunzelihle.proofs.wz_find_list_cause.Reads as wz-find-list-cause
+use Rattle.wunzelihle.proofs.wz_participants.Reads as wz-participants
 use Rattle.wunzelihle.proofs.wz_read_file.Reads as wz-read-file
 use Rattle.wunzelihle.proofs.wz_settle_hour.Reads as wz-settle-hour
 use Rattle.wunzelihle.proofs.wz_split.Reads as wz-split
+use Rattle.wunzelihle.proofs.wz_version.Reads as wz-version
 use Rattle.wunzelihle.proofs.wz_write_file.Reads as wz-write-file
 
--- ==== demand 1, of all five: "Every public entry takes every file, list and number that can be handed to it, and ends."
+-- ==== demand 1, of all ten: "Every public entry takes every file, list and number that can be handed to it, and ends."
 
 pub split-takes-all : (κs : Lfts 2) (args : _) → wz-split.Pre κs args
 split-takes-all κs args = tt
@@ -66,6 +80,21 @@ write-takes-all κs args = tt
 
 pub read-takes-all : (κs : Lfts 4) (args : _) → wz-read-file.Pre κs args
 read-takes-all κs args = tt
+
+pub version-takes-all : (args : _) → wz-version.Pre tt args
+version-takes-all args = tt
+
+pub participants-takes-all : (κs : Lfts 1) (args : _) → wz-participants.Pre κs args
+participants-takes-all κs args = tt
+
+pub counts-takes-all : (κs : Lfts 2) (args : _) → wz-counts.Pre κs args
+counts-takes-all κs args = tt
+
+pub find-takes-all : (κs : Lfts 2) (args : _) → wz-find-cause.Pre κs args
+find-takes-all κs args = tt
+
+pub find-list-takes-all : (κs : Lfts 4) (args : _) → wz-find-list-cause.Pre κs args
+find-list-takes-all κs args = tt
 
 -- ==== wz_split
 
@@ -413,3 +442,105 @@ module _ (κs : Lfts 4) (args : _) (answer : ℕ) (exit : _) (post : wz-read-fil
       read-then-write-bytes =
           then-write .1 ∙ ap (λ (c : Content). writeOutcome c (again .1 .1 .1 .1 .1 .1 .1 .0 .now)) same-content
           ∙ round.listed-again source b read-passes _ room
+
+-- ==== wz_version, wz_participants, wz_counts
+
+pub version-answer : (args : _) (answer : ℕ) (exit : _) → wz-version.Post tt args answer exit → answer ≡ version
+version-answer args answer exit post = post
+
+pub participants-answer : (κs : Lfts 1) (args : _) (answer : ℕ) (exit : _) → wz-participants.Post κs args answer exit → answer ≡ participantsOf (args .0 .now)
+participants-answer κs args answer exit post = post
+
+module _ (κs : Lfts 2) (args : _) (answer : ℕ) (exit : _) (post : wz-counts.Post κs args answer exit) where
+  -- Demand 1
+  pub counts-answer : answer ≡ fileCountsRefusal (args .0 .now) (length (args .1 .0 .now))
+  counts-answer = post .0
+
+  pub counts-one-result : (other : ℕ) (there : _) → wz-counts.Post κs args other there → (answer ≡ other) × (exit .1 .0 .now ≡ there .1 .0 .now)
+  counts-one-result other there q = wz-counts-unique κs args answer other exit there post q
+
+  pub counts-unchanged : (answer ≡ 0 → ⊥) → exit .1 .0 .now ≡ args .1 .0 .now
+  counts-unchanged = unchanged (countNumbers (header (args .0 .now))) (args .1 .0 .now) (post .0) (post .1)
+
+  pub counts-whole : answer ≡ 0 → exit .1 .0 .now ≡ encoded (countNumbers (header (args .0 .now)))
+  counts-whole accepted = post .1 ∙ lent-result _ _ (args .1 .0 .now) (sym (post .0) ∙ accepted)
+
+-- ==== wz_find_cause: why a file is refused
+
+module _ (κs : Lfts 2) (args : _) (answer : ℕ) (exit : _) (post : wz-find-cause.Post κs args answer exit) where
+  abbrev searched : List ℕ
+  searched = args .0 .now
+
+  -- the cause, seven numbers of which the first is the refusal
+  abbrev told : Cause
+  told = hourCause searched
+
+  -- Demand 1: a slice that isn't as long as seven numbers is refused, and nothing else
+  pub find-answer : answer ≡ causeRefusal (length (args .1 .0 .now))
+  find-answer = post .0
+
+  pub find-one-result : (other : ℕ) (there : _) → wz-find-cause.Post κs args other there → (answer ≡ other) × (exit .1 .0 .now ≡ there .1 .0 .now)
+  find-one-result other there q = wz-find-cause-unique κs args answer other exit there post q
+
+  pub find-unchanged : (answer ≡ 0 → ⊥) → exit .1 .0 .now ≡ args .1 .0 .now
+  find-unchanged = unchanged (causeNumbers told) (args .1 .0 .now) (post .0) (post .1)
+
+  pub find-whole : answer ≡ 0 → exit .1 .0 .now ≡ encoded (causeNumbers told)
+  find-whole accepted = post .1 ∙ lent-result _ _ (args .1 .0 .now) (sym (post .0) ∙ accepted)
+
+  -- the number that is told is the settling's own, for every file, where the output lists are as long as they have to be; of a file whose header or length is refused that
+  -- doesn't matter
+  pub find-settled : (λs : Lfts 5) (again : _) (reply : ℕ) (settled : _) → wz-settle-hour.Post λs again reply settled → again .0 .now ≡ searched
+      → (frameRefusal searched ≡ 0 → outputsRefusal (inBytes (hourOf searched .participants)) (length (again .1 .0 .now) ∷ length (again .1 .1 .0 .now) ∷ length (again .1 .1 .1 .0 .now) ∷ length (again .1 .1 .1 .1 .0 .now) ∷ []) ≡ 0)
+      → reply ≡ told .refusal
+  find-settled λs again reply settled then-settle same long =
+      let lengths = length (again .1 .0 .now) ∷ length (again .1 .1 .0 .now) ∷ length (again .1 .1 .1 .0 .now) ∷ length (again .1 .1 .1 .1 .0 .now) ∷ [] in
+      then-settle .0 ∙ ap (λ (f : List ℕ). hourRefusal inBytes f lengths) same ∙ causes.settle-number inBytes searched lengths long
+
+  -- what is found is outside the range that is told with it
+  pub find-outside : (told .refusal ≡ 0) ⊎ (between (told .least) (told .most) (told .found) ≡ false)
+  find-outside = causes.hour-outside searched .beyond
+
+  -- .. and is what stands in the file at the part, number and field that are told
+  pub find-stands : (told .refusal ≡ 0) ⊎ (told .found ≡ fileNumbers searched (told .part) (told .number) at told .field)
+  find-stands = causes.hour-stands searched .there
+
+-- ==== wz_find_list_cause: why an hour in lists of numbers is refused
+
+module _ (κs : Lfts 4) (args : _) (answer : ℕ) (exit : _) (post : wz-find-list-cause.Post κs args answer exit) where
+  abbrev offered : Content
+  offered = content (args .0) (args .1 .0) (args .1 .1 .0) (args .1 .1 .1 .0) (args .1 .1 .1 .1 .0 .now) (args .1 .1 .1 .1 .1 .0 .now) (args .1 .1 .1 .1 .1 .1 .0 .now)
+
+  abbrev listTold : Cause
+  listTold = givenCause offered
+
+  abbrev causeBefore : List ℕ
+  causeBefore = args .1 .1 .1 .1 .1 .1 .1 .0 .now
+
+  abbrev causeAfter : List ℕ
+  causeAfter = exit .1 .1 .1 .1 .1 .1 .1 .0 .now
+
+  -- Demand 1
+  pub find-list-answer : answer ≡ causeRefusal (length causeBefore)
+  find-list-answer = post .0
+
+  pub find-list-one-result : (other : ℕ) (there : _) → wz-find-list-cause.Post κs args other there → (answer ≡ other) × (causeAfter ≡ there .1 .1 .1 .1 .1 .1 .1 .0 .now)
+  find-list-one-result other there q = wz-find-list-cause-unique κs args answer other exit there post q
+
+  pub find-list-unchanged : (answer ≡ 0 → ⊥) → causeAfter ≡ causeBefore
+  find-list-unchanged = unchanged (causeNumbers listTold) causeBefore (post .0) (post .1)
+
+  pub find-list-whole : answer ≡ 0 → causeAfter ≡ encoded (causeNumbers listTold)
+  find-list-whole accepted = post .1 ∙ lent-result _ _ causeBefore (sym (post .0) ∙ accepted)
+
+  -- the number that is told is the writing's own, for all content, where the buffer has room for the file
+  pub find-list-written : (λs : Lfts 4) (again : _) (reply : ℕ) (buffer : _) (then-write : wz-write-file.Post λs again reply buffer) → handed λs again reply buffer then-write ≡ offered
+      → length (fileOf (hourGiven offered)) ≤ length (again .1 .1 .1 .1 .1 .1 .1 .0 .now) → reply ≡ listTold .refusal
+  find-list-written λs again reply buffer then-write same room =
+      then-write .0 ∙ ap (λ (c : Content). writeRefusal c (length (again .1 .1 .1 .1 .1 .1 .1 .0 .now))) same ∙ causes.room-number offered (length (again .1 .1 .1 .1 .1 .1 .1 .0 .now)) room
+
+  pub find-list-outside : (listTold .refusal ≡ 0) ⊎ (between (listTold .least) (listTold .most) (listTold .found) ≡ false)
+  find-list-outside = causes.given-outside offered .beyond
+
+  pub find-list-stands : (listTold .refusal ≡ 0) ⊎ (listTold .found ≡ givenNumbers offered (listTold .part) (listTold .number) at listTold .field)
+  find-list-stands = causes.given-stands offered .there

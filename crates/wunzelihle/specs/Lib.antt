@@ -1,3 +1,4 @@
+pub mod Version
 pub mod Split
 pub mod Load
 pub mod Cases

@@ -4,11 +4,13 @@ ghost use mathlib.Core.List.{[], _∷_};
 ghost use lib.ListN.{length};
 ghost use Rattle.ints.specs.Refusal.{lent};
 ghost use Rattle.numbers.specs.Bytes.{encoded};
+ghost use Rattle.exercise.specs.Cause.{hourCause, givenCause, causeRefusal, causeOutcome};
 ghost use Rattle.exercise.specs.File.{hourOf};
-ghost use Rattle.exercise.specs.Lists.{content, writeRefusal, writeOutcome, readRefusal, pricesListed, rowsListed, transactionsListed};
+ghost use Rattle.exercise.specs.Lists.{content, participantsOf, fileCountsRefusal, fileCountsOutcome, writeRefusal, writeOutcome, readRefusal, pricesListed, rowsListed, transactionsListed};
 ghost use Rattle.exercise.specs.Order.{inBytes, hourRefusal};
 ghost use Rattle.hour.specs.Charges.{congestionCharges, lossCharges};
 ghost use Rattle.hour.specs.Surplus.{credits, nets};
+ghost use Rattle.wunzelihle.specs.Version.{version};
 ghost use Rattle.wunzelihle.specs.Split.{splitBytesRefusal, splitBytesOutcome};
 ghost use Rattle.wunzelihle.specs.Load.{loadBytesRefusal, loadBytesOutcome};
 
@@ -166,4 +168,70 @@ pub extern "C" fn wz_read_file(
     ensures { λ r. ⌜ now («transaction_list» .exit) ≡ lent r (transactionsListed (hourOf (now (file .entry)))) (now («transaction_list» .entry)) ⌝ }
 {
     exercise_read::read_file(file, prices, row_list, transaction_list)
+}
+
+#[no_mangle]
+pub extern "C" fn wz_version() -> u32
+    ensures { λ r. ⌜ r ≡ version ⌝ }
+{
+    10000
+}
+
+#[no_mangle]
+pub extern "C" fn wz_participants(file: &[u8]) -> u32
+    ensures { λ r. ⌜ r ≡ participantsOf (now (file .entry)) ⌝ }
+{
+    exercise_file::participants(file)
+}
+
+#[no_mangle]
+pub extern "C" fn wz_counts(file: &[u8], counts: &mut [u8]) -> u32
+    ensures { λ r. ⌜ r ≡ fileCountsRefusal (now (file .entry)) (length (now (counts .entry))) ⌝ }
+    ensures { λ _. ⌜ now (counts .exit) ≡ fileCountsOutcome (now (file .entry)) (now (counts .entry)) ⌝ }
+{
+    exercise_read::read_counts(file, counts)
+}
+
+#[no_mangle]
+pub extern "C" fn wz_find_cause(file: &[u8], cause: &mut [u8]) -> u32
+    ensures { λ r. ⌜ r ≡ causeRefusal (length (now (cause .entry))) ⌝ }
+    ensures { λ _. ⌜ now (cause .exit) ≡ causeOutcome (hourCause (now (file .entry))) (now (cause .entry)) ⌝ }
+{
+    if cause.len() != 56 {
+        return 1;
+    }
+    hour_cause::put_cause(hour_find::find_cause(file), cause);
+    0
+}
+
+#[no_mangle]
+pub extern "C" fn wz_find_list_cause(
+    participants: i64,
+    locations: i64,
+    rows: i64,
+    transactions: i64,
+    prices: &[u8],
+    row_list: &[u8],
+    transaction_list: &[u8],
+    cause: &mut [u8],
+) -> u32
+    ensures { λ r. ⌜ r ≡ causeRefusal (length (now (cause .entry))) ⌝ }
+    ensures { λ _. ⌜ now (cause .exit) ≡ causeOutcome (givenCause (content participants locations rows transactions (now (prices .entry)) (now («row_list» .entry)) (now («transaction_list» .entry)))) (now (cause .entry)) ⌝ }
+{
+    if cause.len() != 56 {
+        return 1;
+    }
+    hour_cause::put_cause(
+        exercise_list_cause::list_cause(
+            participants,
+            locations,
+            rows,
+            transactions,
+            prices,
+            row_list,
+            transaction_list,
+        ),
+        cause,
+    );
+    0
 }

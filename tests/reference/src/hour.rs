@@ -71,17 +71,13 @@ fn settle(file: &[u8], lens: &[usize]) -> Result<[Vec<i64>; 4], u32> {
         return Err(1);
     }
     let hour = exercise::read_hour(file, &header)?;
-    let accounts = accounts(&hour);
-
-    let charges = |prices: &Prices| -> Vec<i128> {
-        let exact = accounts.iter().map(|account| charge(account, prices));
-        exact.map(cents).collect()
-    };
-    let congestion = charges(&hour.congestion);
-    let loss = charges(&hour.loss);
+    let Charged {
+        congestion,
+        loss,
+        shares,
+    } = charged(&hour);
 
     let surplus: i128 = loss.iter().sum();
-    let shares: Vec<i64> = accounts.iter().map(|account| account.share).collect();
     // Beyond these the surplus could not be split.
     if surplus.abs() > i128::from(MOST_AMOUNT) || shares.iter().any(|&share| share > MOST_SHARE) {
         return Err(10);
@@ -96,6 +92,26 @@ fn settle(file: &[u8], lens: &[usize]) -> Result<[Vec<i64>; 4], u32> {
         .map(|p| congestion[p] + loss[p] - credit[p])
         .collect();
     Ok([congestion, loss, credit, net])
+}
+
+/// What each participant is charged in cents, and its share of the surplus in kW.
+pub struct Charged {
+    pub congestion: Vec<i128>,
+    pub loss: Vec<i128>,
+    pub shares: Vec<i64>,
+}
+
+pub fn charged(hour: &Hour) -> Charged {
+    let accounts = accounts(hour);
+    let charges = |prices: &Prices| -> Vec<i128> {
+        let exact = accounts.iter().map(|account| charge(account, prices));
+        exact.map(cents).collect()
+    };
+    Charged {
+        congestion: charges(&hour.congestion),
+        loss: charges(&hour.loss),
+        shares: accounts.iter().map(|account| account.share).collect(),
+    }
 }
 
 fn accounts(hour: &Hour) -> Vec<Account> {

@@ -5,6 +5,8 @@
 //! Nothing here is taken from the engine: the two share the documents alone.
 
 pub mod bits;
+pub mod cause;
+pub mod counts;
 pub mod examples;
 pub mod exercise;
 pub mod files;
@@ -27,9 +29,13 @@ pub const MOST_KW: i64 = 20_000_000;
 /// names the fields of a case, and `line`, the case whose turn it is with what
 /// the call must answer and leave behind.
 pub mod cases {
+    pub mod cause;
     pub mod check;
+    pub mod counts;
     pub mod hour;
+    pub mod list_cause;
     pub mod load;
+    pub mod participants;
     pub mod read;
     pub mod row;
     pub mod split;

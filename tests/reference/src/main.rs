@@ -4,7 +4,9 @@
 //! `tests/statements/`. `reference statements COUNT SEED FOLDER` writes random
 //! exercise files to a folder, each beside the statement it comes to.
 
-use reference::cases::{check, hour, load, read, row, split, write};
+use reference::cases::{
+    cause, check, counts, hour, list_cause, load, participants, read, row, split, write,
+};
 use reference::files;
 use reference::hour::statement;
 use reference::random::Random;
@@ -16,7 +18,7 @@ use std::process::ExitCode;
 /// The case of a turn.
 type Line = fn(usize, &mut Random) -> String;
 
-const CALLS: [(&str, &str, Line); 7] = [
+const CALLS: [(&str, &str, Line); 11] = [
     ("split", split::HEADER, split::line),
     ("load", load::HEADER, load::line),
     ("row", row::HEADER, row::line),
@@ -24,6 +26,10 @@ const CALLS: [(&str, &str, Line); 7] = [
     ("hour", hour::HEADER, hour::line),
     ("write", write::HEADER, write::line),
     ("read", read::HEADER, read::line),
+    ("participants", participants::HEADER, participants::line),
+    ("counts", counts::HEADER, counts::line),
+    ("cause", cause::HEADER, cause::line),
+    ("list_cause", list_cause::HEADER, list_cause::line),
 ];
 
 fn main() -> ExitCode {

@@ -15,7 +15,7 @@ pub const HEADER: &str = "file\tcongestion before\tloss before\tcredit before\tn
 pub struct Case {
     pub file: File,
     /// Bytes more than the file has, or less, at its end.
-    excess: i64,
+    pub excess: i64,
     /// How much is left of a file of under five bytes.
     stub: Option<usize>,
     /// The lengths of the output lists in bytes.
@@ -468,7 +468,7 @@ fn halves(random: &mut Random) -> File {
 
 /// A surplus of a milliard cents, or next to that, of either sign; by chance as
 /// the difference of charges that are larger still.
-fn surplus_limit(round: usize, random: &mut Random) -> File {
+pub fn surplus_limit(round: usize, random: &mut Random) -> File {
     let participants = 2 + random.index(3);
     let mut file = File::new(participants, 3);
     let negative = round / 6 % 2;
@@ -502,7 +502,7 @@ fn surplus_limit(round: usize, random: &mut Random) -> File {
 }
 
 /// Shares of 4,000,000,000 kW, or one more, with a surplus and without.
-fn share_limit(round: usize, random: &mut Random) -> File {
+pub fn share_limit(round: usize, random: &mut Random) -> File {
     let participants = 1 + random.index(3);
     let mut file = File::new(participants, 2);
     let many = 1 + random.index(participants);
@@ -543,7 +543,7 @@ fn share_limit(round: usize, random: &mut Random) -> File {
 }
 
 /// Shares that total 0, with a surplus and without.
-fn no_shares(round: usize, random: &mut Random) -> File {
+pub fn no_shares(round: usize, random: &mut Random) -> File {
     let mut file = small(random);
     for row in &mut file.rows {
         if row.market == REAL_TIME {
@@ -857,6 +857,16 @@ pub fn spoilt(faults: &[&Fault], random: &mut Random) -> Case {
     case
 }
 
+/// Some faults of rows or of transactions, in as many of them.
+pub fn many_entries(random: &mut Random) -> Vec<u8> {
+    let stage = random.pick(&[ROWS, ROWS, TRANSACTIONS]);
+    let faults = faults_of(stage);
+    let drawn: Vec<&Fault> = (0..2 + random.index(4))
+        .map(|_| random.pick(&faults))
+        .collect();
+    spoilt(&drawn, random).bytes()
+}
+
 /// Two faults of rows or of transactions with different numbers, by chance in
 /// the same entry.
 pub fn one_entry(random: &mut Random) -> Case {
@@ -880,6 +890,13 @@ pub fn faults_of_files() -> Vec<&'static Fault> {
         .iter()
         .filter(|fault| fault.0 <= TRANSACTIONS && fault.0 != LISTS)
         .collect()
+}
+
+/// A file with the n-th of all pairs of faults, but for those of output lists.
+pub fn file_with_any_two_faults(n: usize, random: &mut Random) -> Vec<u8> {
+    let faults: Vec<&Fault> = FAULTS.iter().filter(|fault| fault.0 != LISTS).collect();
+    let (first, second) = pair(n, faults.len());
+    spoilt(&[faults[first], faults[second]], random).bytes()
 }
 
 /// A file with the n-th of all pairs of faults that the check looks for.

@@ -82,7 +82,7 @@ fn large(round: usize, random: &mut Random) -> Case {
 }
 
 /// One bit of a file that is 0 but for its header turned over.
-fn one_bit(round: usize, random: &mut Random) -> Case {
+pub fn one_bit(round: usize, random: &mut Random) -> Case {
     let (count, rows) = random.pick(&[(1, 1), (64, 2)]);
     let mut empty = File::new(count, 1 + random.index(count).min(4));
     for _ in 0..rows {

@@ -111,15 +111,25 @@ pub fn line(turn: usize, random: &mut Random) -> String {
     let before = random.bytes(case.buffer_len());
     let mut after = before.clone();
     let number = write_file(&given, &mut after);
-    let counts = case.counts.map(|count| count.to_string()).join("\t");
-    let lists = [
-        &given.prices,
-        &given.row_list,
-        &given.transaction_list,
-        &before,
+    format!(
+        "{}\t{}\t{number}\t{}",
+        fields(&given),
+        hex(&before),
+        hex(&after)
+    )
+}
+
+/// An hour in lists as the fields of a case.
+pub fn fields(given: &Given) -> String {
+    let counts = [
+        given.participants,
+        given.locations,
+        given.rows,
+        given.transactions,
     ];
-    let lists = lists.map(|list| hex(list)).join("\t");
-    format!("{counts}\t{lists}\t{number}\t{}", hex(&after))
+    let lists = [&given.prices, &given.row_list, &given.transaction_list];
+    let counts = counts.map(|count| count.to_string()).join("\t");
+    format!("{counts}\t{}", lists.map(|list| hex(list)).join("\t"))
 }
 
 pub fn draw(turn: usize, random: &mut Random) -> Case {
@@ -511,6 +521,22 @@ fn two_faults(_: usize, random: &mut Random) -> Case {
     let any = random.index(FAULTS.len() * (FAULTS.len() - 1));
     let (first, second) = pair(any, FAULTS.len());
     spoilt(&[&FAULTS[first], &FAULTS[second]], random)
+}
+
+/// The n-th of all pairs of faults, but for those of the buffer.
+pub fn with_two_faults(n: usize, random: &mut Random) -> Case {
+    let faults: Vec<&Fault> = FAULTS.iter().filter(|fault| fault.0 != OF_BUFFER).collect();
+    let (first, second) = pair(n, faults.len());
+    spoilt(&[faults[first], faults[second]], random)
+}
+
+/// Some faults of rows or of transactions, in as many of them.
+pub fn many_entries(random: &mut Random) -> Case {
+    let faults = faults_of(random.pick(&[OF_ROWS, OF_TRANSACTIONS]));
+    let drawn: Vec<&Fault> = (0..2 + random.index(4))
+        .map(|_| random.pick(&faults))
+        .collect();
+    spoilt(&drawn, random)
 }
 
 /// Faults of each pair of stages.

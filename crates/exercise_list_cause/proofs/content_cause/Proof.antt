@@ -1,0 +1,45 @@
+-- `exercise_list_cause::content_cause` meets its contract. Assumes nothing.
+use mathlib.Core.Path.{_∙_}
+use borrow.Author.Needs.{needs}
+use Rattle.hour.proofs.Causes.{or-made}
+use Rattle.exercise_list_cause.proofs.Given.{content-is}
+use Rattle.exercise_list_cause.proofs.content_cause.Statement.{statement}
+use Rattle.exercise_list_cause.proofs.content_cause.Tie as tie
+
+mul-prices-cause : tie.Need-mul-prices-cause
+mul-prices-cause c = search needs
+
+prices-cause-requires : tie.Need-prices-cause-requires
+prices-cause-requires c κs = search needs
+
+first-cause-requires : tie.Need-first-cause-requires
+first-cause-requires c κs = search needs
+
+first-cause-requires-2 : tie.Need-first-cause-requires-2
+first-cause-requires-2 c κs = search needs
+
+first-of-requires : tie.Need-first-of-requires
+first-of-requires c κs = search needs
+
+first-of-requires-2 : tie.Need-first-of-requires-2
+first-of-requires-2 c κs = search needs
+
+returns : tie.Need-returns
+returns c = let t = c .before .before in
+    let r = t .before in
+    let q = r .before in
+    let a = q .before .before .before .before .args in
+    or-made _ _ _ _ _ (c .first-of2 .ensures) (q .prices-cause .ensures) (or-made _ _ _ _ _ (c .before .first-of .ensures) (r .first-cause .ensures) (t .first-cause2 .ensures))
+    ∙ content-is (a .participants) (a .locations) (a .rows) (a .transactions) (a .prices .now) (a .row-list .now) (a .transaction-list .now)
+
+pub content-cause-spec : {M : Type 1} → statement M
+content-cause-spec =
+    tie.close
+    (tie.spec
+    mul-prices-cause
+    prices-cause-requires
+    first-cause-requires
+    first-cause-requires-2
+    first-of-requires
+    first-of-requires-2
+    returns)

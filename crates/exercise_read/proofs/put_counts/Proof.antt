@@ -1,0 +1,51 @@
+-- `exercise_read::put_counts` meets its contract. Assumes nothing.
+use mathlib.Core.Path.{refl, ap, _∙_}
+use native.Mathlib.Omega.{arith}
+use mir.Facts.{toZ-pos}
+use mir.Syntax.{w64}
+use borrow.Author.Needs.{needs}
+use Rattle.numbers.specs.Bytes.{encoded}
+use Rattle.exercise_read.proofs.put_counts.Statement.{statement}
+use Rattle.exercise_read.proofs.put_counts.Tie as tie
+
+cast-t4 : tie.Need-cast-t4
+cast-t4 c = search needs
+
+cast-t5 : tie.Need-cast-t5
+cast-t5 c = search needs
+
+cast-t6 : tie.Need-cast-t6
+cast-t6 c = search needs
+
+cast-t7 : tie.Need-cast-t7
+cast-t7 c = search needs
+
+slice-aggregate-write-all : tie.Need-slice-aggregate-write-all
+slice-aggregate-write-all c = search needs
+
+write-all-requires : tie.Need-write-all-requires
+write-all-requires c κs = search needs
+
+same-length : tie.Need-same-length
+same-length c = search needs
+
+returns : tie.Need-returns
+returns c = let s = c .before .before .before .before .before .before .before .before .before .before in
+    let h = s .args .header in
+    let k = s .pre .0 in
+    c .before .before .write-all .ensures
+    ∙ ap encoded
+    (simp (toZ-pos w64 {n = h .participants} (omega (arith, k .participants)), toZ-pos w64 {n = h .locations} (omega (arith, k .locations)), toZ-pos w64 {n = h .rows} (omega (arith, k .rows)), toZ-pos w64 {n = h .transactions} (omega (arith, k .transactions))) refl)
+
+pub put-counts-spec : {M : Type 1} → statement M
+put-counts-spec =
+    tie.close
+    (tie.spec
+    cast-t4
+    cast-t5
+    cast-t6
+    cast-t7
+    slice-aggregate-write-all
+    write-all-requires
+    same-length
+    returns)

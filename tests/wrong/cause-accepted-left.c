@@ -1,0 +1,3 @@
+/* Of an accepted file nothing is written. */
+#define MISTAKE ACCEPTED_LEFT
+#include "cause.h"

@@ -1,0 +1,3 @@
+/* The place is one further. */
+#define MISTAKE COUNTED_FROM_1
+#include "cause.h"

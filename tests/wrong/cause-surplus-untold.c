@@ -1,0 +1,3 @@
+/* The surplus is not told. */
+#define MISTAKE SURPLUS_UNTOLD
+#include "cause.h"

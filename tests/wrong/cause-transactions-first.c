@@ -1,0 +1,3 @@
+/* The header's transactions are tested before its rows. */
+#define MISTAKE TRANSACTIONS_FIRST
+#include "cause.h"

@@ -1,0 +1,3 @@
+/* No mistake: must be accepted, so that the others are rejected for theirs. */
+#define MISTAKE NONE
+#include "counts.h"

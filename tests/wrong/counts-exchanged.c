@@ -1,0 +1,3 @@
+/* Transactions stand before rows. */
+#define MISTAKE FIELDS_EXCHANGED
+#include "counts.h"

@@ -1,0 +1,3 @@
+/* A list of four numbers and some bytes is taken. */
+#define MISTAKE LENGTHS_CUT
+#include "counts.h"

@@ -1,0 +1,3 @@
+/* What follows the header is tested, too. */
+#define MISTAKE REST_TESTED
+#include "counts.h"

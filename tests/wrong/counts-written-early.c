@@ -1,0 +1,3 @@
+/* A number is written before the last refusal. */
+#define MISTAKE WRITTEN_EARLY
+#include "counts.h"

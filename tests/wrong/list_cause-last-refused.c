@@ -1,0 +1,3 @@
+/* The last row that is wrong is told, not the first. */
+#define MISTAKE LAST_REFUSED
+#include "list_cause.h"

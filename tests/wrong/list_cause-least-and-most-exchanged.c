@@ -1,0 +1,3 @@
+/* The least and the most are exchanged. */
+#define MISTAKE LEAST_AND_MOST_EXCHANGED
+#include "list_cause.h"

@@ -1,0 +1,3 @@
+/* The refusal is told, and no place. */
+#define MISTAKE REFUSAL_ALONE
+#include "list_cause.h"

@@ -1,0 +1,3 @@
+/* A sink is told as the source. */
+#define MISTAKE SINK_AS_SOURCE
+#include "list_cause.h"

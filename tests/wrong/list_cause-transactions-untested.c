@@ -1,0 +1,3 @@
+/* Transactions aren't tested. */
+#define MISTAKE TRANSACTIONS_UNTESTED
+#include "list_cause.h"

@@ -1,0 +1,3 @@
+/* The list stays as it was. */
+#define MISTAKE WRITES_NOTHING
+#include "list_cause.h"

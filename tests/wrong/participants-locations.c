@@ -1,0 +1,3 @@
+/* The locations are counted. */
+#define MISTAKE LOCATIONS_COUNTED
+#include "participants.h"
