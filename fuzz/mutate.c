@@ -16,30 +16,38 @@
 
 #define HEADER_BYTES 5
 #define PRICE_BYTES 3
-#define ENTRY_BYTES 6 /* of a row or a transaction */
-#define STRETCHES 26  /* of prices, one for each location in each */
-#define LONGEST (HEADER_BYTES + PRICE_BYTES * STRETCHES * 64 + \
-                 ENTRY_BYTES * (MOST_ROWS + MOST_TRANSACTIONS))
-#define MOST_EXCESS 6
+#define STRETCHES 26 /* of prices, one for each location in each */
+#define LONGEST WZ_LONGEST_FILE
+#define MOST_EXCESS 7
 
 struct draft {
     uint8_t *file;
     size_t len;
     size_t participants, locations;
     size_t entries[2]; /* rows, transactions */
+    size_t edition;
 };
 enum { ROWS, TRANSACTIONS };
 
-/* The fields of a row and of a transaction, by the place of their lowest bit. */
+/* The fields of a row, a path and a sale, by the place of their lowest bit. */
 struct bits {
     unsigned shift, count;
 };
-enum { MARKET, INTERVAL, PARTICIPANT, LOCATION, KW, KIND, SINK, FIELDS };
-static const struct bits fields[2][FIELDS] = {
-    {{47, 1}, {40, 4}, {34, 6}, {28, 6}, {3, 25}, {44, 3}, {0, 0}},
-    {{47, 1}, {43, 4}, {37, 6}, {31, 6}, {0, 25}, {0, 0}, {25, 6}},
+enum { MARKET, INTERVAL, PARTICIPANT, SELLER, LOCATION, KW, KIND, SINK, SPARE, FIELDS };
+struct layout {
+    size_t bytes;
+    struct bits fields[FIELDS];
 };
+static const struct layout
+    row = {6, {{47, 1}, {40, 4}, {34, 6}, {0, 0}, {28, 6}, {3, 25}, {44, 3}, {0, 0}, {0, 3}}},
+    path = {6, {{47, 1}, {43, 4}, {37, 6}, {0, 0}, {31, 6}, {0, 25}, {0, 0}, {25, 6}, {0, 0}}},
+    sale = {7, {{55, 1}, {51, 4}, {45, 6}, {39, 6}, {33, 6}, {2, 25}, {0, 0}, {27, 6}, {0, 2}}};
 static const size_t most_entries[2] = {MOST_ROWS, MOST_TRANSACTIONS};
+
+static const struct layout *layout_of(const struct draft *draft, int kind)
+{
+    return kind == ROWS ? &row : draft->edition == WZ_EDITION_PATH_ONLY ? &path : &sale;
+}
 
 /* ---- chance */
 
@@ -107,9 +115,11 @@ static uint8_t *price_of(const struct draft *draft, size_t at)
 
 static uint8_t *entry_of(const struct draft *draft, int kind, size_t at)
 {
-    size_t before = kind == ROWS ? at : draft->entries[ROWS] + at;
+    uint8_t *rows = price_of(draft, STRETCHES * draft->locations);
 
-    return price_of(draft, STRETCHES * draft->locations) + ENTRY_BYTES * before;
+    if (kind == ROWS)
+        return rows + row.bytes * at;
+    return rows + row.bytes * draft->entries[ROWS] + layout_of(draft, kind)->bytes * at;
 }
 
 static size_t length_of(const struct draft *draft)
@@ -117,16 +127,20 @@ static size_t length_of(const struct draft *draft)
     return (size_t)(entry_of(draft, TRANSACTIONS, draft->entries[TRANSACTIONS]) - draft->file);
 }
 
-static uint64_t field_of(const uint8_t *entry, struct bits field)
+static uint64_t field_of(const uint8_t *entry, const struct layout *layout, int field)
 {
-    return get(entry, ENTRY_BYTES) >> field.shift & ((UINT64_C(1) << field.count) - 1);
+    struct bits bits = layout->fields[field];
+
+    return get(entry, layout->bytes) >> bits.shift & ((UINT64_C(1) << bits.count) - 1);
 }
 
-static void put_field(uint8_t *entry, struct bits field, uint64_t number)
+static void put_field(uint8_t *entry, const struct layout *layout, int field, uint64_t number)
 {
-    uint64_t mask = ((UINT64_C(1) << field.count) - 1) << field.shift;
+    struct bits bits = layout->fields[field];
+    uint64_t mask = ((UINT64_C(1) << bits.count) - 1) << bits.shift;
 
-    put(entry, ENTRY_BYTES, (get(entry, ENTRY_BYTES) & ~mask) | (number << field.shift & mask));
+    put(entry, layout->bytes,
+        (get(entry, layout->bytes) & ~mask) | (number << bits.shift & mask));
 }
 
 static void read_header(struct draft *draft)
@@ -137,13 +151,15 @@ static void read_header(struct draft *draft)
     draft->locations = (header >> 28 & 63) + 1;
     draft->entries[ROWS] = header >> 16 & 4095;
     draft->entries[TRANSACTIONS] = header >> 6 & 1023;
+    draft->edition = header & 63;
 }
 
 static void write_header(const struct draft *draft)
 {
     put(draft->file, HEADER_BYTES,
         (uint64_t)(draft->participants - 1) << 34 | (uint64_t)(draft->locations - 1) << 28 |
-            (uint64_t)draft->entries[ROWS] << 16 | (uint64_t)draft->entries[TRANSACTIONS] << 6);
+            (uint64_t)draft->entries[ROWS] << 16 | (uint64_t)draft->entries[TRANSACTIONS] << 6 |
+            (uint64_t)draft->edition);
 }
 
 /* ---- mending */
@@ -165,12 +181,14 @@ static void mend_price(uint8_t *price)
 /* How many values a field may have in this entry, from 0. */
 static uint64_t values_of(const struct draft *draft, int kind, const uint8_t *entry, int field)
 {
-    uint64_t market = field_of(entry, fields[kind][MARKET]);
+    uint64_t market = field_of(entry, layout_of(draft, kind), MARKET);
 
     switch (field) {
     case MARKET: return 2;
     case INTERVAL: return market ? INTERVALS : 1;
-    case PARTICIPANT: return draft->participants;
+    case PARTICIPANT:
+    case SELLER: return draft->participants;
+    case SPARE: return 1;
     case KW: return MOST_KW + 1;
     case KIND: return market ? 4 : 6;
     default: return draft->locations;
@@ -179,15 +197,12 @@ static uint64_t values_of(const struct draft *draft, int kind, const uint8_t *en
 
 static void mend_entry(const struct draft *draft, int kind, uint8_t *entry)
 {
+    const struct layout *layout = layout_of(draft, kind);
     int field;
 
-    for (field = 0; field < FIELDS; field++) {
-        struct bits place = fields[kind][field];
-
-        put_field(entry, place, field_of(entry, place) % values_of(draft, kind, entry, field));
-    }
-    if (kind == ROWS)
-        entry[ENTRY_BYTES - 1] &= 0xf8;
+    for (field = 0; field < FIELDS; field++)
+        put_field(entry, layout, field,
+                  field_of(entry, layout, field) % values_of(draft, kind, entry, field));
 }
 
 static void mend_entries(const struct draft *draft)
@@ -210,6 +225,7 @@ static void mend(struct draft *draft)
     for (i = ROWS; i <= TRANSACTIONS; i++)
         if (draft->entries[i] > most_entries[i])
             draft->entries[i] %= most_entries[i];
+    draft->edition %= WZ_LAST_EDITION + 1;
     for (i = 0; i < STRETCHES * draft->locations; i++)
         mend_price(price_of(draft, i));
     mend_entries(draft);
@@ -233,7 +249,7 @@ static void redraw(const struct draft *draft, int kind, uint8_t *entry, int fiel
     uint64_t value = field == KW ? (uint64_t)draw_size(MOST_KW)
                                  : below(values_of(draft, kind, entry, field));
 
-    put_field(entry, fields[kind][field], value);
+    put_field(entry, layout_of(draft, kind), field, value);
     mend_entry(draft, kind, entry);
 }
 
@@ -256,7 +272,7 @@ static uint8_t *open_gap(struct draft *draft, int kind, size_t at, size_t count)
     uint8_t *gap = entry_of(draft, kind, at);
     size_t behind = length_of(draft) - (size_t)(gap - draft->file);
 
-    memmove(gap + ENTRY_BYTES * count, gap, behind);
+    memmove(gap + layout_of(draft, kind)->bytes * count, gap, behind);
     draft->entries[kind] += count;
     return gap;
 }
@@ -265,14 +281,15 @@ static void add_entry(struct draft *draft)
 {
     int kind = some_kind(), field;
     size_t count = draft->entries[kind], like = below(count + 1);
+    size_t bytes = layout_of(draft, kind)->bytes;
     uint8_t *entry;
 
     if (count == most_entries[kind])
         return;
     entry = open_gap(draft, kind, count, 1);
-    memset(entry, 0, ENTRY_BYTES);
+    memset(entry, 0, bytes);
     if (like < count && once_in(2))
-        memcpy(entry, entry_of(draft, kind, like), ENTRY_BYTES);
+        memcpy(entry, entry_of(draft, kind, like), bytes);
     else
         for (field = 0; field < FIELDS; field++)
             redraw(draft, kind, entry, field);
@@ -287,8 +304,8 @@ static void mirror_row(struct draft *draft)
     if (count == 0 || count == MOST_ROWS)
         return;
     entry = open_gap(draft, ROWS, count, 1);
-    memcpy(entry, entry_of(draft, ROWS, below(count)), ENTRY_BYTES);
-    put_field(entry, fields[ROWS][KIND], field_of(entry, fields[ROWS][KIND]) ^ 1);
+    memcpy(entry, entry_of(draft, ROWS, below(count)), row.bytes);
+    put_field(entry, &row, KIND, field_of(entry, &row, KIND) ^ 1);
     redraw(draft, ROWS, entry, PARTICIPANT);
 }
 
@@ -297,14 +314,15 @@ static void repeat_entries(struct draft *draft)
 {
     int kind = some_kind();
     size_t count = draft->entries[kind], more = most_entries[kind] - count, i;
+    size_t bytes = layout_of(draft, kind)->bytes;
     uint8_t *entry;
 
     if (count == 0 || more == 0)
         return;
     more = once_in(2) ? more : 1 + below(more);
     entry = open_gap(draft, kind, count, more);
-    for (i = 0; i < more; i++, entry += ENTRY_BYTES)
-        memcpy(entry, entry_of(draft, kind, i % count), ENTRY_BYTES);
+    for (i = 0; i < more; i++, entry += bytes)
+        memcpy(entry, entry_of(draft, kind, i % count), bytes);
 }
 
 static void remove_entries(struct draft *draft)
@@ -345,8 +363,35 @@ static void change_locations(struct draft *draft)
                 put_price(price, draw_price());
         }
     memcpy(entry_of(draft, ROWS, 0), entry_of(&before, ROWS, 0),
-           ENTRY_BYTES * (draft->entries[ROWS] + draft->entries[TRANSACTIONS]));
+           len - (size_t)(entry_of(&before, ROWS, 0) - old));
     mend_entries(draft);
+}
+
+/* Each transaction gets a seller, or loses it; or the bytes are read anew. */
+static void change_edition(struct draft *draft)
+{
+    static uint8_t old[LONGEST];
+    struct draft before = *draft;
+    size_t i;
+    int field;
+
+    draft->edition = draft->edition == 0;
+    if (once_in(4)) {
+        mend_entries(draft);
+        return;
+    }
+    memcpy(old, draft->file, length_of(&before));
+    before.file = old;
+    for (i = 0; i < draft->entries[TRANSACTIONS]; i++) {
+        const struct layout *from = layout_of(&before, TRANSACTIONS);
+        uint8_t *entry = entry_of(draft, TRANSACTIONS, i);
+
+        memset(entry, 0, layout_of(draft, TRANSACTIONS)->bytes);
+        for (field = 0; field < FIELDS; field++)
+            put_field(entry, layout_of(draft, TRANSACTIONS), field,
+                      field_of(entry_of(&before, TRANSACTIONS, i), from, field));
+        redraw(draft, TRANSACTIONS, entry, SELLER);
+    }
 }
 
 static void change(struct draft *draft)
@@ -355,6 +400,7 @@ static void change(struct draft *draft)
         change_prices, change_prices,  change_prices,  change_entry,        change_entry,
         change_entry,  change_entry,   add_entry,      add_entry,           mirror_row,
         mirror_row,    remove_entries, repeat_entries, change_participants, change_locations,
+        change_edition,
     };
 
     changes[below(sizeof changes / sizeof *changes)](draft);
@@ -379,7 +425,8 @@ static void spoil_bit(struct draft *draft)
     case 1: turn_bit(price_of(draft, below(STRETCHES * draft->locations)), 1); break;
     default:
         if (draft->entries[kind] > 0)
-            turn_bit(entry_of(draft, kind, below(draft->entries[kind])), ENTRY_BYTES);
+            turn_bit(entry_of(draft, kind, below(draft->entries[kind])),
+                     layout_of(draft, kind)->bytes);
     }
 }
 

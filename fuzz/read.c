@@ -23,7 +23,7 @@ static struct list list[LISTS] = {
 };
 
 /* What the header tells. */
-static size_t participants, locations, rows, transactions;
+static size_t participants, locations, rows, transactions, edition;
 
 static uint32_t engine(const struct list *lent)
 {
@@ -49,6 +49,7 @@ static void read_header(const uint8_t *file, size_t len)
     locations = (header >> 28 & 63) + 1;
     rows = header >> 16 & 4095;
     transactions = header >> 6 & 1023;
+    edition = header & 63;
 }
 
 static size_t at_most(size_t most, size_t count)
@@ -60,7 +61,8 @@ static size_t at_most(size_t most, size_t count)
 static void take_lists(uint8_t about)
 {
     size_t right[] = {26 * 8 * locations, 6 * 8 * at_most(MOST_ROWS, rows),
-                      6 * 8 * at_most(MOST_TRANSACTIONS, transactions)};
+                      (size_t)WZ_TRANSACTION_NUMBERS(edition) * 8 *
+                          at_most(MOST_TRANSACTIONS, transactions)};
     size_t i;
 
     for (i = PRICES; i <= TRANSACTIONS; i++) {
@@ -80,7 +82,7 @@ static void write_again(void)
     size_t len = list[FILE_BYTES].len;
     uint32_t answer = wz_write_file(
         (int64_t)participants, (int64_t)locations, (int64_t)rows, (int64_t)transactions,
-        list[PRICES].after, list[PRICES].len, list[ROWS].after, list[ROWS].len,
+        (int64_t)edition, list[PRICES].after, list[PRICES].len, list[ROWS].after, list[ROWS].len,
         list[TRANSACTIONS].after, list[TRANSACTIONS].len, again, len);
 
     if (!answers("wz_write_file", answer, WZ_OK) ||

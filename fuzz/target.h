@@ -25,7 +25,7 @@ uint32_t judge_settle_hour(const uint8_t *file, size_t file_len,
                            uint8_t *net, size_t net_len);
 
 uint32_t judge_write_file(int64_t participants, int64_t locations, int64_t rows,
-                          int64_t transactions,
+                          int64_t transactions, int64_t edition,
                           const uint8_t *prices, size_t prices_len,
                           const uint8_t *row_list, size_t row_list_len,
                           const uint8_t *transaction_list,

@@ -13,7 +13,7 @@
 #define MOST_KW 20000000
 #define INTERVALS 12
 #define STRETCHES 26 /* of prices, one for each location in each */
-#define FIELDS 6     /* of a row or a transaction */
+#define ROW_FIELDS 6
 
 enum { PRICES, ROWS, TRANSACTIONS, FILE_BYTES, LISTS };
 
@@ -23,18 +23,19 @@ static struct list list[LISTS] = {
     {.name = "transaction_list"},
     {.name = "file"},
 };
-static int64_t participants, locations, rows, transactions;
+static int64_t participants, locations, rows, transactions, edition;
 
 static uint32_t engine(const struct list *lent)
 {
-    return wz_write_file(participants, locations, rows, transactions, LENT(lent[PRICES]),
+    return wz_write_file(participants, locations, rows, transactions, edition, LENT(lent[PRICES]),
                          LENT(lent[ROWS]), LENT(lent[TRANSACTIONS]), LENT(lent[FILE_BYTES]));
 }
 
 static uint32_t judge(const struct list *lent)
 {
-    return judge_write_file(participants, locations, rows, transactions, LENT(lent[PRICES]),
-                            LENT(lent[ROWS]), LENT(lent[TRANSACTIONS]), LENT(lent[FILE_BYTES]));
+    return judge_write_file(participants, locations, rows, transactions, edition,
+                            LENT(lent[PRICES]), LENT(lent[ROWS]), LENT(lent[TRANSACTIONS]),
+                            LENT(lent[FILE_BYTES]));
 }
 
 /* A count, mostly one of the first few, seldom the most or none that may be. */
@@ -73,25 +74,27 @@ static void take_transaction(struct source *source, size_t at)
 {
     int64_t market = take_choice(source, 2);
 
-    put_at(&list[TRANSACTIONS], at, market);
-    put_at(&list[TRANSACTIONS], at + 1, take_choice(source, market == 1 ? INTERVALS : 1));
-    put_at(&list[TRANSACTIONS], at + 2, take_choice(source, participants));
-    put_at(&list[TRANSACTIONS], at + 3, take_choice(source, locations));
-    put_at(&list[TRANSACTIONS], at + 4, take_choice(source, locations));
-    put_at(&list[TRANSACTIONS], at + 5, take_number(source, 0, MOST_KW));
+    put_at(&list[TRANSACTIONS], at++, market);
+    put_at(&list[TRANSACTIONS], at++, take_choice(source, market == 1 ? INTERVALS : 1));
+    put_at(&list[TRANSACTIONS], at++, take_choice(source, participants));
+    if (edition == WZ_EDITION_WITH_SELLER)
+        put_at(&list[TRANSACTIONS], at++, take_choice(source, participants));
+    put_at(&list[TRANSACTIONS], at++, take_choice(source, locations));
+    put_at(&list[TRANSACTIONS], at++, take_choice(source, locations));
+    put_at(&list[TRANSACTIONS], at, take_number(source, 0, MOST_KW));
 }
 
 /* Gives a list so many rows or transactions, or few that then come again and again. */
-static void take_entries(struct source *source, struct list *entries, size_t count,
+static void take_entries(struct source *source, struct list *entries, size_t fields, size_t count,
                          void (*take_entry)(struct source *, size_t))
 {
-    size_t period = FIELDS * take_period(source, count), i;
+    size_t period = fields * take_period(source, count), i;
 
-    for (i = 0; i < FIELDS * count && i < period; i += FIELDS)
+    for (i = 0; i < fields * count && i < period; i += fields)
         take_entry(source, i);
-    for (; i < FIELDS * count; i++)
+    for (; i < fields * count; i++)
         put_at(entries, i, number_at(entries, i - period));
-    entries->len = 8 * FIELDS * count;
+    entries->len = 8 * fields * count;
 }
 
 /* A buffer as long as the file, or a little longer or shorter. */
@@ -126,8 +129,9 @@ int LLVMFuzzerTestOneInput(const uint8_t *bytes, size_t len)
     static const struct field given[] = {
         {.number = &participants},     {.number = &locations},
         {.number = &rows},             {.number = &transactions},
-        {.list = &list[PRICES]},       {.list = &list[ROWS]},
-        {.list = &list[TRANSACTIONS]}, {.list = &list[FILE_BYTES]},
+        {.number = &edition},          {.list = &list[PRICES]},
+        {.list = &list[ROWS]},         {.list = &list[TRANSACTIONS]},
+        {.list = &list[FILE_BYTES]},
     };
     static const struct call write = {
         .name = "wz_write_file",
@@ -147,11 +151,12 @@ int LLVMFuzzerTestOneInput(const uint8_t *bytes, size_t len)
     locations = take_count(&source, 1, 5, 64);
     rows = take_count(&source, 0, 9, MOST_ROWS);
     transactions = take_count(&source, 0, 5, MOST_TRANSACTIONS);
+    edition = take_choice(&source, WZ_LAST_EDITION + 1);
     prices = STRETCHES * truly(locations, 64);
     take_list(&source, &list[PRICES], prices, -MOST_PRICE, MOST_PRICE);
-    take_entries(&source, &list[ROWS], truly(rows, MOST_ROWS), take_row);
-    take_entries(&source, &list[TRANSACTIONS], truly(transactions, MOST_TRANSACTIONS),
-                 take_transaction);
+    take_entries(&source, &list[ROWS], ROW_FIELDS, truly(rows, MOST_ROWS), take_row);
+    take_entries(&source, &list[TRANSACTIONS], (size_t)WZ_TRANSACTION_NUMBERS(edition),
+                 truly(transactions, MOST_TRANSACTIONS), take_transaction);
     file_len = 5 + 3 * prices + list[ROWS].len / 8 + list[TRANSACTIONS].len / 8;
     fill(&list[FILE_BYTES], take_room(&source, file_len));
     spoil_length(fault, list, LISTS);

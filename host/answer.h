@@ -24,7 +24,7 @@ struct cell {
     char room[DOLLARS_LEN]; /* for a text of its own */
 };
 
-#define MOST_COLUMNS 12
+#define MOST_COLUMNS 13
 
 struct answer {
     enum format format;

@@ -13,6 +13,7 @@ enum column {
     LOCATIONS_COLUMN,
     ROWS_COLUMN,
     TRANSACTIONS_COLUMN,
+    EDITION_COLUMN,
     COLUMNS
 };
 
@@ -23,6 +24,7 @@ static const char *const columns[COLUMNS] = {
     [LOCATIONS_COLUMN] = "locations",
     [ROWS_COLUMN] = "rows",
     [TRANSACTIONS_COLUMN] = "transactions",
+    [EDITION_COLUMN] = "edition",
 };
 
 static const char *form_of(const struct hour *hour)
@@ -55,6 +57,7 @@ static void print_counts(const struct hour *hour, const struct exercise *exercis
     print_named(&hour->names, LOCATION, exercise->locations);
     printf("%-14s%zu\n", columns[ROWS_COLUMN], exercise->rows.count);
     printf("%-14s%zu\n", columns[TRANSACTIONS_COLUMN], exercise->transactions.count);
+    printf("%-14s%" PRId64 "\n", columns[EDITION_COLUMN], exercise->edition);
 }
 
 static void print_table(struct answer *answer, const struct hour *hour,
@@ -66,6 +69,7 @@ static void print_table(struct answer *answer, const struct hour *hour,
     put_number(answer, LOCATIONS_COLUMN, exercise->locations);
     put_number(answer, ROWS_COLUMN, (int64_t)exercise->rows.count);
     put_number(answer, TRANSACTIONS_COLUMN, (int64_t)exercise->transactions.count);
+    put_number(answer, EDITION_COLUMN, exercise->edition);
     end_line(answer);
 }
 

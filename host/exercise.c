@@ -4,18 +4,46 @@
 
 #define HEADER 5 /* bytes of a file's header */
 
-/* Arguments of the calls: an hour's counts, and its lists with their lengths. */
+/* Arguments of the calls: an hour's counts and edition, and its lists with their lengths. */
 #define LISTS_OF(exercise)                                                                        \
     (exercise)->prices, prices_len(exercise), (exercise)->rows.numbers,                           \
         entries_len(&(exercise)->rows), (exercise)->transactions.numbers,                         \
         entries_len(&(exercise)->transactions)
 #define COUNTS_OF(exercise)                                                                       \
     (exercise)->participants, (exercise)->locations, (int64_t)(exercise)->rows.count,             \
-        (int64_t)(exercise)->transactions.count
+        (int64_t)(exercise)->transactions.count, (exercise)->edition
 
-int64_t entry_number(const struct entries *entries, size_t entry, size_t i)
+/* Where the numbers of a transaction with a seller stand in a list. */
+static const size_t sale_place[] = {
+    [TRANSACTION_MARKET] = WZ_SALE_MARKET,           [TRANSACTION_INTERVAL] = WZ_SALE_INTERVAL,
+    [TRANSACTION_PARTICIPANT] = WZ_SALE_PARTICIPANT, [TRANSACTION_SELLER] = WZ_SALE_SELLER,
+    [TRANSACTION_SOURCE] = WZ_SALE_SOURCE,           [TRANSACTION_SINK] = WZ_SALE_SINK,
+    [TRANSACTION_KW] = WZ_SALE_KW};
+
+int64_t entry_number(const struct entries *entries, size_t entry, size_t place)
 {
-    return wz_get(entries->numbers, ENTRY * entry + i);
+    return wz_get(entries->numbers, entries->width * entry + place);
+}
+
+int is_edition(int64_t edition)
+{
+    return edition >= 0 && edition <= WZ_LAST_EDITION;
+}
+
+int have_seller(const struct entries *transactions)
+{
+    return transactions->width == WZ_TRANSACTION_NUMBERS(WZ_EDITION_WITH_SELLER);
+}
+
+size_t transaction_place(const struct entries *transactions, enum transaction_number number)
+{
+    return have_seller(transactions) ? sale_place[number] : (size_t)number;
+}
+
+int64_t transaction_number(const struct entries *transactions, size_t transaction,
+                           enum transaction_number number)
+{
+    return entry_number(transactions, transaction, transaction_place(transactions, number));
 }
 
 int has_room_for_prices(const struct exercise *exercise)
@@ -63,11 +91,6 @@ size_t price_place(size_t number)
     return HEADER + PRICE_BYTES * number;
 }
 
-size_t entry_place(size_t locations, size_t entry)
-{
-    return price_place(WZ_LOCATION_PRICES * locations) + ENTRY_BYTES * entry;
-}
-
 /* The lengths of the lists in bytes. */
 static size_t prices_len(const struct exercise *exercise)
 {
@@ -76,7 +99,7 @@ static size_t prices_len(const struct exercise *exercise)
 
 static size_t entries_len(const struct entries *entries)
 {
-    return WZ_NUMBER * ENTRY * entries->count;
+    return WZ_NUMBER * entries->width * entries->count;
 }
 
 void counts_in_header(const uint8_t *file, size_t length, uint8_t counts[WZ_NUMBER * WZ_COUNT_NUMBERS])
@@ -94,8 +117,8 @@ uint32_t write_exercise(const struct exercise *exercise, uint8_t file[WZ_LONGEST
         wz_write_file(COUNTS_OF(exercise), LISTS_OF(exercise), file, WZ_LONGEST_FILE);
 
     if (refusal == WZ_OK)
-        *len = entry_place((size_t)exercise->locations,
-                           exercise->rows.count + exercise->transactions.count);
+        *len = WZ_FILE_BYTES(exercise->locations, exercise->rows.count,
+                             exercise->transactions.count, exercise->edition);
     return refusal;
 }
 
@@ -106,10 +129,13 @@ uint32_t read_exercise(const uint8_t *file, size_t len, struct exercise *exercis
 
     if (refusal != WZ_OK)
         return refusal;
-    exercise->participants = wz_get(counts, 0);
-    exercise->locations = wz_get(counts, 1);
-    exercise->rows.count = (size_t)wz_get(counts, 2);
-    exercise->transactions.count = (size_t)wz_get(counts, 3);
+    exercise->participants = wz_get(counts, WZ_HEADER_PARTICIPANTS);
+    exercise->locations = wz_get(counts, WZ_HEADER_LOCATIONS);
+    exercise->edition = wz_get(counts, WZ_HEADER_EDITION);
+    exercise->rows.count = (size_t)wz_get(counts, WZ_HEADER_ROWS);
+    exercise->rows.width = WZ_ROW_NUMBERS;
+    exercise->transactions.count = (size_t)wz_get(counts, WZ_HEADER_TRANSACTIONS);
+    exercise->transactions.width = WZ_TRANSACTION_NUMBERS(exercise->edition);
     return wz_read_file(file, len, LISTS_OF(exercise));
 }
 

@@ -16,7 +16,11 @@ enum price_list { CONGESTION_PRICES, LOSS_PRICES, PRICE_LISTS };
 
 enum market { DAY_AHEAD, REAL_TIME, MARKETS };
 
-/* The numbers of a row and of a transaction, in their order. */
+/*
+ * The numbers of a row and of a transaction, as a cause tells of them. Those of
+ * a row stand in a list in this order; where those of a transaction stand there,
+ * its edition decides.
+ */
 enum row_number {
     ROW_MARKET,
     ROW_KIND,
@@ -32,9 +36,11 @@ enum transaction_number {
     TRANSACTION_PARTICIPANT,
     TRANSACTION_SOURCE,
     TRANSACTION_SINK,
-    TRANSACTION_KW
+    TRANSACTION_KW,
+    TRANSACTION_SELLER, /* of edition 1 alone, as the next */
+    TRANSACTION_SPARE   /* in a file alone */
 };
-#define ENTRY WZ_ROW_NUMBERS /* numbers of either */
+#define MOST_ENTRY WZ_MOST_TRANSACTION_NUMBERS /* numbers of either at most */
 
 /*
  * Rows, or transactions. There is room for one more than the most of rows, and
@@ -44,17 +50,29 @@ enum transaction_number {
 
 struct entries {
     size_t count;
-    uint8_t numbers[WZ_NUMBER * ENTRY * ROOM];
+    size_t width; /* how many numbers each has; 0 is possible where there is none */
+    uint8_t numbers[WZ_NUMBER * MOST_ENTRY * ROOM];
 };
 
 struct exercise {
-    int64_t participants, locations;
+    int64_t participants, locations, edition;
     uint8_t prices[WZ_NUMBER * WZ_LOCATION_PRICES * WZ_MOST_LOCATIONS];
     struct entries rows, transactions;
 };
 
-/* The number i of an entry. */
-int64_t entry_number(const struct entries *entries, size_t entry, size_t i);
+/* The number of an entry that stands in a place of its own. */
+int64_t entry_number(const struct entries *entries, size_t entry, size_t place);
+
+/* Whether an edition is one that there is. */
+int is_edition(int64_t edition);
+
+/* Whether transactions name a seller. */
+int have_seller(const struct entries *transactions);
+
+/* A number of a transaction, and its place among the transaction's own. */
+int64_t transaction_number(const struct entries *transactions, size_t transaction,
+                           enum transaction_number number);
+size_t transaction_place(const struct entries *transactions, enum transaction_number number);
 
 /* Whether there are as many locations as there is room for prices of. */
 int has_room_for_prices(const struct exercise *exercise);
@@ -74,13 +92,6 @@ void set_price(struct exercise *exercise, size_t stretch, size_t location, int64
 /* Where a price stands in the bytes of a file, by its number in the file's order. */
 #define PRICE_BYTES 3
 size_t price_place(size_t number);
-
-/*
- * Where a row or a transaction stands in the bytes of a file with so many
- * locations; transactions are counted on after the rows.
- */
-#define ENTRY_BYTES 6
-size_t entry_place(size_t locations, size_t entry);
 
 /*
  * The counts that a file's header tells of where the file hasn't the length that

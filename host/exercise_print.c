@@ -83,7 +83,7 @@ static int follows(const struct entries *entries, size_t entry, size_t place)
 
     if (entry_number(entries, entry, 0) != REAL_TIME) /* either begins with the market */
         return 0;
-    for (i = 0; i < ENTRY; i++) {
+    for (i = 0; i < entries->width; i++) {
         if (entry_number(entries, entry, i) != entry_number(entries, entry - 1, i) + (i == place))
             return 0;
     }
@@ -107,14 +107,18 @@ static void print_transaction(const struct entries *transactions, size_t transac
 {
     char head[HEAD_LEN], power[UNITS_LEN];
 
-    write_head(head, (enum market)entry_number(transactions, transaction, TRANSACTION_MARKET),
-               TRANSACTION, entry_number(transactions, transaction, TRANSACTION_INTERVAL),
+    write_head(head, (enum market)transaction_number(transactions, transaction, TRANSACTION_MARKET),
+               TRANSACTION, transaction_number(transactions, transaction, TRANSACTION_INTERVAL),
                last_interval);
-    megawatts_text(entry_number(transactions, transaction, TRANSACTION_KW), power);
-    printf("%-27s participant %-2" PRId64 " from %-2" PRId64 " to %-2" PRId64 "  %s\n", head,
-           entry_number(transactions, transaction, TRANSACTION_PARTICIPANT),
-           entry_number(transactions, transaction, TRANSACTION_SOURCE),
-           entry_number(transactions, transaction, TRANSACTION_SINK), power);
+    megawatts_text(transaction_number(transactions, transaction, TRANSACTION_KW), power);
+    printf("%-27s participant %-2" PRId64, head,
+           transaction_number(transactions, transaction, TRANSACTION_PARTICIPANT));
+    if (have_seller(transactions))
+        printf(" seller %-2" PRId64,
+               transaction_number(transactions, transaction, TRANSACTION_SELLER));
+    printf(" from %-2" PRId64 " to %-2" PRId64 "  %s\n",
+           transaction_number(transactions, transaction, TRANSACTION_SOURCE),
+           transaction_number(transactions, transaction, TRANSACTION_SINK), power);
 }
 
 /* Prints entries in their order; those in turn that a range stands for stand in a line. */
@@ -152,6 +156,8 @@ void print_exercise_text(const struct exercise *exercise, const struct names *na
 {
     size_t width = width_of_prices(exercise);
 
+    if (exercise->edition != WZ_EDITION_PATH_ONLY) /* of which a text needs no line */
+        printf("edition %" PRId64 "\n", exercise->edition);
     print_count(names, PARTICIPANT, exercise->participants);
     print_count(names, LOCATION, exercise->locations);
     putchar('\n');

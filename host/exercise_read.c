@@ -10,6 +10,7 @@
 
 #define TOO_SHORT "too short"
 #define SMALL_LETTERS "write it in small letters"
+#define HOW_MANY "write how many there are"
 #define DIGITS "0123456789"
 
 /* What was read of the text. */
@@ -19,25 +20,28 @@ struct reading {
     struct names names;        /* in the lines up to the one at hand */
     struct names all;          /* in all lines */
     const struct names *other; /* of other files */
+    size_t sellers; /* the line that says whether transactions name one; 0, none has yet */
 };
 
 /* What a line is about. */
 struct topic {
     enum market market;
     enum thing thing;
+    int has_seller; /* of a transaction */
 };
 
 /* ---- models */
 
 /* How a line may go on after its head. */
-static const char *rest_of(enum thing thing)
+static const char *rest_of(const struct topic *topic)
 {
-    switch (thing) {
+    switch (topic->thing) {
     case PRICES_OF_CONGESTION:
     case PRICES_OF_LOSS:
         return "$0.50 $2.00";
     case TRANSACTION:
-        return "participant 0 from 1 to 2 5 MW";
+        return topic->has_seller ? "participant 0 seller 3 from 1 to 2 5 MW"
+                                 : "participant 0 from 1 to 2 5 MW";
     default:
         return "participant 0 location 1 200 MW";
     }
@@ -50,7 +54,7 @@ static int fault_with_model(const struct text *text, const struct topic *topic, 
     char head[HEAD_LEN], all[300];
 
     write_head(head, topic->market, topic->thing, 0, WZ_INTERVALS - 1);
-    snprintf(all, sizeof all, "%s '%s %s'", why, head, rest_of(topic->thing));
+    snprintf(all, sizeof all, "%s '%s %s'", why, head, rest_of(topic));
     return fault(text, word, all);
 }
 
@@ -140,6 +144,15 @@ static int misplaced(const struct text *text, const struct topic *topic, const c
     if (has_capitals(word))
         return fault(text, word, SMALL_LETTERS);
     return fault_with_model(text, topic, word, "write it as");
+}
+
+/* Whether the next word of the line is that. */
+static int comes_next(const struct text *text, const char *word)
+{
+    const char *rest = text->rest + strspn(text->rest, BLANKS);
+    size_t len = strlen(word);
+
+    return strncmp(rest, word, len) == 0 && strchr(BLANKS, rest[len]);
 }
 
 /* Whether a word, and what follows it in the line, is a name of several words. */
@@ -342,7 +355,7 @@ static int take_prices(struct text *text, struct reading *reading, const struct 
  * Adds an entry for each interval, as far as there is room; `place` is where
  * the interval stands in it.
  */
-static void add_entries(struct entries *entries, int64_t numbers[ENTRY], size_t place,
+static void add_entries(struct entries *entries, int64_t numbers[MOST_ENTRY], size_t place,
                         const struct intervals *intervals, size_t *lines, size_t line)
 {
     int64_t interval = intervals->first;
@@ -350,8 +363,8 @@ static void add_entries(struct entries *entries, int64_t numbers[ENTRY], size_t 
 
     while (entries->count < ROOM) {
         numbers[place] = interval;
-        for (i = 0; i < ENTRY; i++)
-            wz_put(entries->numbers, ENTRY * entries->count + i, numbers[i]);
+        for (i = 0; i < entries->width; i++)
+            wz_put(entries->numbers, entries->width * entries->count + i, numbers[i]);
         lines[entries->count++] = line;
         if (interval == intervals->last)
             return;
@@ -361,7 +374,7 @@ static void add_entries(struct entries *entries, int64_t numbers[ENTRY], size_t 
 
 static int take_row(struct text *text, struct reading *reading, const struct topic *topic)
 {
-    int64_t row[ENTRY] = {[ROW_MARKET] = topic->market, [ROW_KIND] = topic->thing};
+    int64_t row[MOST_ENTRY] = {[ROW_MARKET] = topic->market, [ROW_KIND] = topic->thing};
     struct intervals intervals;
 
     if (!read_intervals(text, topic, &intervals) ||
@@ -374,21 +387,88 @@ static int take_row(struct text *text, struct reading *reading, const struct top
     return 1;
 }
 
-static int take_transaction(struct text *text, struct reading *reading,
-                            const struct topic *topic)
+/*
+ * Keeps how many numbers a transaction of the hour has, and so whether it names
+ * a seller, where no line has said so yet; this one does.
+ */
+static void keep_sellers(const struct text *text, struct reading *reading, size_t width)
 {
-    int64_t transaction[ENTRY] = {[TRANSACTION_MARKET] = topic->market};
+    if (reading->sellers != 0)
+        return;
+    reading->sellers = text->line_number;
+    reading->exercise->transactions.width = width;
+}
+
+/*
+ * Reads the seller, where the transaction has one. Either all of an hour have
+ * one, or none; the first of them decides, or the line of the edition.
+ */
+static int read_seller(struct text *text, const struct reading *reading, struct topic *topic,
+                       int64_t *seller)
+{
+    int is_there = comes_next(text, "seller");
+    char why[100];
+
+    if (reading->sellers == 0)
+        topic->has_seller = is_there;
+    if (is_there && !topic->has_seller) {
+        snprintf(why, sizeof why, "by line %zu no transaction has one; name it in all, or in none",
+                 reading->sellers);
+        return fault(text, "seller", why);
+    }
+    if (topic->has_seller && comes_next(text, "from")) {
+        snprintf(why, sizeof why, "no seller, and by line %zu all have one; write it as",
+                 reading->sellers);
+        return fault_with_model(text, topic, "from", why);
+    }
+    return !topic->has_seller || read_named(text, reading, topic, "seller", PARTICIPANT, seller);
+}
+
+/* Says where a seller stands that comes after the path; gives 1 where none does. */
+static int has_no_late_seller(const struct text *text, struct topic *topic)
+{
+    if (!comes_next(text, "seller"))
+        return 1;
+    topic->has_seller = 1;
+    return misplaced(text, topic, "seller");
+}
+
+/* Adds a transaction for each interval, its numbers in the places of its edition. */
+static void add_transactions(const struct text *text, struct reading *reading,
+                             const struct topic *topic, const int64_t *transaction,
+                             const struct intervals *intervals)
+{
+    struct exercise *exercise = reading->exercise;
+    enum transaction_number number, last = topic->has_seller ? TRANSACTION_SELLER : TRANSACTION_KW;
+    int64_t edition = topic->has_seller ? WZ_EDITION_WITH_SELLER : WZ_EDITION_PATH_ONLY;
+    int64_t numbers[MOST_ENTRY];
+
+    keep_sellers(text, reading, WZ_TRANSACTION_NUMBERS(edition));
+    if (reading->lines->edition == 0)
+        exercise->edition = edition;
+    for (number = TRANSACTION_MARKET; number <= last; number++)
+        numbers[transaction_place(&exercise->transactions, number)] = transaction[number];
+    add_entries(&exercise->transactions, numbers,
+                transaction_place(&exercise->transactions, TRANSACTION_INTERVAL), intervals,
+                reading->lines->transactions, text->line_number);
+}
+
+static int take_transaction(struct text *text, struct reading *reading, struct topic *topic)
+{
+    int64_t transaction[MOST_ENTRY] = {[TRANSACTION_MARKET] = topic->market};
     struct intervals intervals;
 
+    topic->has_seller = have_seller(&reading->exercise->transactions);
     if (!read_intervals(text, topic, &intervals) ||
         !read_named(text, reading, topic, "participant", PARTICIPANT,
                     &transaction[TRANSACTION_PARTICIPANT]) ||
+        !read_seller(text, reading, topic, &transaction[TRANSACTION_SELLER]) ||
         !read_named(text, reading, topic, "from", LOCATION, &transaction[TRANSACTION_SOURCE]) ||
         !read_named(text, reading, topic, "to", LOCATION, &transaction[TRANSACTION_SINK]) ||
+        !has_no_late_seller(text, topic) ||
         !read_last_power(text, topic, reading->lines, &transaction[TRANSACTION_KW]))
         return 0;
-    add_entries(&reading->exercise->transactions, transaction, TRANSACTION_INTERVAL, &intervals,
-                reading->lines->transactions, text->line_number);
+    add_transactions(text, reading, topic, transaction, &intervals);
     return 1;
 }
 
@@ -441,19 +521,44 @@ static int take_thing(struct text *text, struct reading *reading, enum market ma
     }
 }
 
-static int take_count(struct text *text, const char *name, int64_t *count, size_t *line)
+/* Takes the number of a line that there is once; `needed` is what to write. */
+static int take_number(struct text *text, const char *name, const char *needed, int64_t *number,
+                       size_t *line)
 {
     const char *word = next_word(text), *why;
 
     if (*line != 0)
         return fault(text, name, "there is such a line already; keep one of them");
     if (!word)
-        return fault(text, TOO_SHORT, "write how many there are");
-    why = read_number(word, count);
+        return fault(text, TOO_SHORT, needed);
+    why = read_number(word, number);
     if (why)
         return fault(text, word, why);
     *line = text->line_number;
     return ends(text);
+}
+
+/* Takes the edition. One that there isn't is refused by the engine. */
+static int take_edition(struct text *text, struct reading *reading)
+{
+    struct exercise *exercise = reading->exercise;
+    size_t width;
+    char why[100];
+
+    if (!take_number(text, "edition", "write 1 where transactions name a seller, or else 0",
+                     &exercise->edition, &reading->lines->edition))
+        return 0;
+    if (!is_edition(exercise->edition))
+        return 1;
+    width = WZ_TRANSACTION_NUMBERS(exercise->edition);
+    keep_sellers(text, reading, width);
+    if (exercise->transactions.width == width)
+        return 1;
+    snprintf(why, sizeof why, "%" PRId64 " %s, and line %zu names %s", exercise->edition,
+             have_seller(&exercise->transactions) ? "has no sellers"
+                                                  : "has a seller in each transaction",
+             reading->sellers, have_seller(&exercise->transactions) ? "one" : "none");
+    return fault(text, "edition", why);
 }
 
 static int take_line(struct text *text, void *into)
@@ -466,17 +571,20 @@ static int take_line(struct text *text, void *into)
     if (named < NAMED)
         return take_name(text, named, &reading->names);
     if (strcmp(word, "participants") == 0)
-        return take_count(text, word, &reading->exercise->participants,
-                          &reading->lines->participants);
+        return take_number(text, word, HOW_MANY, &reading->exercise->participants,
+                           &reading->lines->participants);
     if (strcmp(word, "locations") == 0)
-        return take_count(text, word, &reading->exercise->locations, &reading->lines->locations);
+        return take_number(text, word, HOW_MANY, &reading->exercise->locations,
+                           &reading->lines->locations);
+    if (strcmp(word, "edition") == 0)
+        return take_edition(text, reading);
     for (market = DAY_AHEAD; market < MARKETS; market++) {
         if (strcmp(word, market_word[market]) == 0)
             return take_thing(text, reading, market);
     }
     return wrong_word(text, word,
-                      "no such line; one begins with participants, locations, participant, "
-                      "location, day-ahead or real-time");
+                      "no such line; one begins with participants, locations, edition, "
+                      "participant, location, day-ahead or real-time");
 }
 
 /* ---- the whole */
@@ -527,9 +635,9 @@ static int is_whole(struct text *text, const struct reading *reading)
     const struct lines *lines = reading->lines;
 
     if (lines->participants == 0)
-        return missing(text, "participants", "write how many there are");
+        return missing(text, "participants", HOW_MANY);
     if (lines->locations == 0)
-        return missing(text, "locations", "write how many there are");
+        return missing(text, "locations", HOW_MANY);
     return has_prices(text, lines, CONGESTION_PRICES) && has_prices(text, lines, LOSS_PRICES) &&
            has_all_named(text, &reading->names, PARTICIPANT, exercise->participants) &&
            has_all_named(text, &reading->names, LOCATION, exercise->locations);
@@ -543,6 +651,7 @@ int take_exercise_text(const char *name, const uint8_t *bytes, size_t len,
 
     memset(exercise, 0, sizeof *exercise);
     memset(lines, 0, sizeof *lines);
+    exercise->rows.width = WZ_ROW_NUMBERS;
     find_names(name, bytes, len, &reading.all);
     if (!take_text(&text, take_line, &reading) || !is_whole(&text, &reading))
         return 0;

@@ -49,7 +49,7 @@ enum thing prices_of(enum price_list list);
 
 /* Where each number of an hour stands in its text: lines, from 1. */
 struct lines {
-    size_t participants, locations;
+    size_t participants, locations, edition; /* 0 where there is no such line */
     size_t stretches[WZ_LOCATION_PRICES];
     size_t rows[ROOM], transactions[ROOM];
     size_t without_unit; /* the first with power that has no unit, 0 where all have one */

@@ -62,6 +62,7 @@ int has_capitals(const char *word)
         "participants", "locations",   "day-ahead",  "real-time", "load",  "generation", "export",
         "import",       "decrement",   "bid",        "increment", "offer", "from",       "to",
         "transaction",  "participant", "congestion", "prices",    "loss",  "location",   "is",
+        "edition",      "seller",
     };
     size_t i = 0;
 

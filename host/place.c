@@ -79,25 +79,26 @@ static void add_line(char place[PLACE_LEN], size_t line)
 
 /* ---- file and header */
 
-enum header_field { PARTICIPANTS, LOCATIONS, ROWS, TRANSACTIONS, SPARE };
+enum header_field { PARTICIPANTS, LOCATIONS, ROWS, TRANSACTIONS, EDITION };
 
 static const char *const header_word[] = {[PARTICIPANTS] = "participant",
                                           [LOCATIONS] = "location",
                                           [ROWS] = "row",
                                           [TRANSACTIONS] = "transaction"};
 
-/* The counts in the header, which tell how long the file has to be. */
+/* The counts and the edition in the header, which tell how long the file has to be. */
 static void add_counts(char place[PLACE_LEN], const struct cause *cause)
 {
     uint8_t counts[WZ_NUMBER * WZ_COUNT_NUMBERS];
     size_t i;
 
     counts_in_header(cause->hour->file, (size_t)cause->least, counts);
-    for (i = 0; i < WZ_COUNT_NUMBERS; i++) {
-        add(place, i == 0 ? "" : i + 1 < WZ_COUNT_NUMBERS ? ", " : " and ");
+    for (i = PARTICIPANTS; i <= TRANSACTIONS; i++) {
         add_number_text(place, wz_get(counts, i));
-        add(place, " %s%s", header_word[i], plural((size_t)wz_get(counts, i)));
+        add(place, " %s%s%s", header_word[i], plural((size_t)wz_get(counts, i)),
+            i < TRANSACTIONS ? ", " : " and ");
     }
+    add(place, "edition %" PRId64, wz_get(counts, EDITION));
 }
 
 static void add_length(char place[PLACE_LEN], const struct cause *cause)
@@ -136,19 +137,29 @@ static void add_text_count(char place[PLACE_LEN], const struct cause *cause)
     add_range(place, cause);
 }
 
+/* "edition 5; 0 and 1 exist". */
+static void add_edition(char place[PLACE_LEN], const struct cause *cause)
+{
+    if (cause->hour->is_text)
+        add_line(place, cause->hour->lines.edition);
+    add(place, "edition %" PRId64 "; %" PRId64 " %s %" PRId64 " exist", cause->found, cause->least,
+        cause->most == cause->least + 1 ? "and" : "to", cause->most);
+}
+
 static void add_header(char place[PLACE_LEN], const struct cause *cause)
 {
+    if (!cause->hour->is_text)
+        add(place, "header (bytes 0 to 4): ");
+    if (cause->field == EDITION) {
+        add_edition(place, cause);
+        return;
+    }
     if (cause->hour->is_text) {
         add_text_count(place, cause);
         return;
     }
-    add(place, "header (bytes 0 to 4): ");
-    if (cause->field == SPARE) {
-        add(place, "spare bits %" PRId64 "; they have to be ", cause->found);
-    } else {
-        add_number_text(place, cause->found);
-        add(place, " %s%s; a file has ", header_word[cause->field], plural((size_t)cause->found));
-    }
+    add_number_text(place, cause->found);
+    add(place, " %s%s; a file has ", header_word[cause->field], plural((size_t)cause->found));
     add_range(place, cause);
 }
 
@@ -167,7 +178,7 @@ static size_t locations_of(const struct hour *hour)
     if (hour->refusal != WZ_OK)
         return (size_t)hour->exercise.locations;
     wz_counts(hour->file, hour->len, counts, sizeof counts);
-    return (size_t)wz_get(counts, 1);
+    return (size_t)wz_get(counts, LOCATIONS);
 }
 
 static void add_price(char place[PLACE_LEN], const struct cause *cause)
@@ -196,27 +207,23 @@ static void add_price(char place[PLACE_LEN], const struct cause *cause)
 static const enum row_number like_row[] = {
     [TRANSACTION_MARKET] = ROW_MARKET,           [TRANSACTION_INTERVAL] = ROW_INTERVAL,
     [TRANSACTION_PARTICIPANT] = ROW_PARTICIPANT, [TRANSACTION_SOURCE] = ROW_LOCATION,
-    [TRANSACTION_SINK] = ROW_LOCATION,           [TRANSACTION_KW] = ROW_KW};
-
-static const char *const row_word[] = {
-    [ROW_MARKET] = "market",           [ROW_KIND] = "kind",         [ROW_INTERVAL] = "interval",
-    [ROW_PARTICIPANT] = "participant", [ROW_LOCATION] = "location", [ROW_KW] = "kW",
-    [ROW_SPARE] = "spare bits"};
+    [TRANSACTION_SINK] = ROW_LOCATION,           [TRANSACTION_KW] = ROW_KW,
+    [TRANSACTION_SELLER] = ROW_PARTICIPANT,      [TRANSACTION_SPARE] = ROW_SPARE};
 
 static int is_row(const struct cause *cause)
 {
     return cause->part == WZ_PART_ROW;
 }
 
-/* Where the row or transaction begins in the file. */
-static size_t first_byte(const struct cause *cause)
+/* Where the row or transaction of that number begins in the file. */
+static size_t first_byte(const struct cause *cause, size_t number)
 {
     uint8_t counts[WZ_NUMBER * WZ_COUNT_NUMBERS];
-    size_t rows;
 
     wz_counts(cause->hour->file, cause->hour->len, counts, sizeof counts);
-    rows = is_row(cause) ? 0 : (size_t)wz_get(counts, 2);
-    return entry_place(locations_of(cause->hour), rows + cause->number);
+    return is_row(cause) ? WZ_FILE_BYTES(wz_get(counts, LOCATIONS), number, 0, 0)
+                         : WZ_FILE_BYTES(wz_get(counts, LOCATIONS), wz_get(counts, ROWS), number,
+                                         wz_get(counts, EDITION));
 }
 
 /* The market that it is in, which is the first bit in a file. */
@@ -225,7 +232,7 @@ static enum market market_of_entry(const struct cause *cause)
     const struct hour *hour = cause->hour;
 
     if (!hour->is_text)
-        return hour->file[first_byte(cause)] >> 7 ? REAL_TIME : DAY_AHEAD;
+        return hour->file[first_byte(cause, cause->number)] >> 7 ? REAL_TIME : DAY_AHEAD;
     return (enum market)entry_number(
         is_row(cause) ? &hour->exercise.rows : &hour->exercise.transactions, cause->number, 0);
 }
@@ -233,13 +240,15 @@ static enum market market_of_entry(const struct cause *cause)
 static void add_entry_place(char place[PLACE_LEN], const struct cause *cause)
 {
     const struct lines *lines = &cause->hour->lines;
+    size_t first;
 
     if (cause->hour->is_text) {
         add_line(place, (is_row(cause) ? lines->rows : lines->transactions)[cause->number]);
         return;
     }
-    add(place, "%s %zu", is_row(cause) ? "row" : "transaction", cause->number);
-    add_bytes(place, first_byte(cause), ENTRY_BYTES);
+    first = first_byte(cause, cause->number);
+    add(place, "%s %zu", wz_part_word(cause->part), cause->number);
+    add_bytes(place, first, first_byte(cause, cause->number + 1) - first);
     add(place, ": ");
 }
 
@@ -275,19 +284,15 @@ static void add_kind(char place[PLACE_LEN], const struct cause *cause)
 static void add_interval(char place[PLACE_LEN], const struct cause *cause)
 {
     add(place, "interval %" PRId64 "; a %s %s has ", cause->found,
-        market_word[market_of_entry(cause)], is_row(cause) ? "row" : "transaction");
+        market_word[market_of_entry(cause)], wz_part_word(cause->part));
     add_range(place, cause);
 }
 
 /* "location 3; this file has 0 to 2". */
-static void add_identity(char place[PLACE_LEN], const struct cause *cause, enum row_number number)
+static void add_identity(char place[PLACE_LEN], const struct cause *cause)
 {
-    const char *word = row_word[number];
-
-    if (!is_row(cause) && number == ROW_LOCATION)
-        word = cause->field == TRANSACTION_SOURCE ? "source" : "sink";
-    add(place, "%s %" PRId64 "; this %s has ", word, cause->found,
-        cause->hour->is_text ? "hour" : "file");
+    add(place, "%s %" PRId64 "; this %s has ", wz_field_word(cause->part, cause->field),
+        cause->found, cause->hour->is_text ? "hour" : "file");
     add_range(place, cause);
 }
 
@@ -300,7 +305,7 @@ static void add_entry(char place[PLACE_LEN], const struct cause *cause)
     switch (number) {
     case ROW_MARKET:
     case ROW_SPARE:
-        add(place, "%s %" PRId64 "; %s ", row_word[number], cause->found,
+        add(place, "%s %" PRId64 "; %s ", wz_field_word(cause->part, cause->field), cause->found,
             number == ROW_SPARE ? "they have to be" : "it has to be");
         add_range(place, cause);
         break;
@@ -312,7 +317,7 @@ static void add_entry(char place[PLACE_LEN], const struct cause *cause)
         break;
     case ROW_PARTICIPANT:
     case ROW_LOCATION:
-        add_identity(place, cause, number);
+        add_identity(place, cause);
         break;
     case ROW_KW:
         add_beyond(place, cause, KW);

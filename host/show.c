@@ -16,6 +16,7 @@ enum column {
     SINK_COLUMN,
     KW_COLUMN,
     MILLS_COLUMN,
+    SELLER_COLUMN,
     COLUMNS
 };
 
@@ -32,6 +33,7 @@ static const char *const columns[COLUMNS] = {
     [SINK_COLUMN] = "sink",
     [KW_COLUMN] = "kw",
     [MILLS_COLUMN] = "mills",
+    [SELLER_COLUMN] = "seller",
 };
 
 /* Begins a line with what it tells of, and which one of these. */
@@ -101,20 +103,30 @@ static void print_transactions(struct answer *answer, const struct entries *tran
 
     for (i = 0; i < transactions->count; i++) {
         put_entry(answer, "transaction", i);
-        put_market(answer, (enum market)entry_number(transactions, i, TRANSACTION_MARKET),
-                   (size_t)entry_number(transactions, i, TRANSACTION_INTERVAL));
+        put_market(answer, (enum market)transaction_number(transactions, i, TRANSACTION_MARKET),
+                   (size_t)transaction_number(transactions, i, TRANSACTION_INTERVAL));
         put_number(answer, PARTICIPANT_COLUMN,
-                   entry_number(transactions, i, TRANSACTION_PARTICIPANT));
-        put_number(answer, SOURCE_COLUMN, entry_number(transactions, i, TRANSACTION_SOURCE));
-        put_number(answer, SINK_COLUMN, entry_number(transactions, i, TRANSACTION_SINK));
-        put_number(answer, KW_COLUMN, entry_number(transactions, i, TRANSACTION_KW));
+                   transaction_number(transactions, i, TRANSACTION_PARTICIPANT));
+        put_number(answer, SOURCE_COLUMN, transaction_number(transactions, i, TRANSACTION_SOURCE));
+        put_number(answer, SINK_COLUMN, transaction_number(transactions, i, TRANSACTION_SINK));
+        put_number(answer, KW_COLUMN, transaction_number(transactions, i, TRANSACTION_KW));
+        if (have_seller(transactions))
+            put_number(answer, SELLER_COLUMN,
+                       transaction_number(transactions, i, TRANSACTION_SELLER));
         end_line(answer);
     }
+}
+
+static void print_edition(struct answer *answer, int64_t edition)
+{
+    put_entry(answer, "edition", (size_t)edition);
+    end_line(answer);
 }
 
 static void print_table(struct answer *answer, const struct exercise *exercise,
                         const struct names *names)
 {
+    print_edition(answer, exercise->edition);
     print_named(answer, names, PARTICIPANT, exercise->participants);
     print_named(answer, names, LOCATION, exercise->locations);
     print_prices(answer, exercise);

@@ -4,6 +4,7 @@
 #include "place.h"
 #include "refusals.h"
 
+#include <inttypes.h>
 #include <stdio.h>
 #include <string.h>
 #include <sys/stat.h>
@@ -73,7 +74,7 @@ static void say_written(const char *file, const struct hour *hour)
     say_count((size_t)exercise->locations, "location");
     say_count(exercise->rows.count, "row");
     say_count(exercise->transactions.count, "transaction");
-    fprintf(stderr, "%zu bytes\n", hour->len);
+    fprintf(stderr, "edition %" PRId64 ", %zu bytes\n", exercise->edition, hour->len);
 }
 
 /*

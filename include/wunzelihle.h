@@ -121,8 +121,8 @@ extern "C" {
  * same major version that isn't older than its header: where
  * WZ_RUNS_WITH(wz_version()) is 1.
  */
-#define WZ_VERSION      10000u
-#define WZ_VERSION_TEXT "1.0.0"
+#define WZ_VERSION      20000u
+#define WZ_VERSION_TEXT "2.0.0"
 #define WZ_RUNS_WITH(version) \
     ((version) / 10000u == WZ_VERSION / 10000u && (version) >= WZ_VERSION)
 
@@ -158,18 +158,31 @@ extern "C" {
 #define WZ_MOST_PRICE          5000000    /* mills per MWh; as much below 0 */
 #define WZ_LOCATION_PRICES     26         /* prices of each location */
 #define WZ_ROW_NUMBERS         6          /* numbers of a row in a list */
-#define WZ_TRANSACTION_NUMBERS 6          /* numbers of a transaction in one */
 #define WZ_SHORTEST_FILE       83         /* bytes of an exercise file */
-#define WZ_LONGEST_FILE        18821
-#define WZ_COUNT_NUMBERS       4          /* numbers that wz_counts writes */
+#define WZ_LONGEST_FILE        19077
+#define WZ_COUNT_NUMBERS       5          /* numbers that wz_counts writes */
 #define WZ_CAUSE_NUMBERS       7          /* numbers of a cause */
 
 /*
- * How many bytes the file of so many locations, rows and transactions has.
+ * The editions of an hour and its file. A transaction of edition 0 is a path
+ * alone. One of edition 1 is also a sale: it names the seller, the buyer injects
+ * at the sink and the seller withdraws at the source.
  */
-#define WZ_FILE_BYTES(locations, rows, transactions) \
+#define WZ_EDITION_PATH_ONLY   0
+#define WZ_EDITION_WITH_SELLER 1
+#define WZ_LAST_EDITION        1
+
+/*
+ * How many numbers a transaction of an edition has in a list, and the most;
+ * and how many bytes the file of so many locations, rows and transactions of an
+ * edition has.
+ */
+#define WZ_TRANSACTION_NUMBERS(edition) \
+    ((edition) == WZ_EDITION_WITH_SELLER ? 7 : 6)
+#define WZ_MOST_TRANSACTION_NUMBERS 7
+#define WZ_FILE_BYTES(locations, rows, transactions, edition) \
     (5 + 78 * (size_t)(locations) + 6 * (size_t)(rows) +                     \
-     6 * (size_t)(transactions))
+     (size_t)WZ_TRANSACTION_NUMBERS(edition) * (size_t)(transactions))
 
 /*
  * The markets, and the kinds of a row.
@@ -184,9 +197,11 @@ extern "C" {
 #define WZ_KIND_INCREMENT_OFFER 5 /* day-ahead only */
 
 /*
- * The numbers of a row and of a transaction, by their places in a list, and the
- * fields of a header, in the file's order. A cause has the same places, and one
- * for the spare bits of a file.
+ * The numbers of a row and of a transaction, by their places in a list; a list
+ * of edition 1 has the seller after the participant, so that its transactions
+ * have places of their own, WZ_SALE. The counts of a header, in the file's
+ * order. A cause tells of a transaction of either edition by the same numbers,
+ * those of WZ_TRANSACTION, where seller and spare bits come last.
  */
 #define WZ_ROW_MARKET      0
 #define WZ_ROW_KIND        1
@@ -202,12 +217,22 @@ extern "C" {
 #define WZ_TRANSACTION_SOURCE      3
 #define WZ_TRANSACTION_SINK        4
 #define WZ_TRANSACTION_KW          5
+#define WZ_TRANSACTION_SELLER      6 /* of a cause alone */
+#define WZ_TRANSACTION_SPARE       7 /* of a cause alone */
+
+#define WZ_SALE_MARKET      0
+#define WZ_SALE_INTERVAL    1
+#define WZ_SALE_PARTICIPANT 2
+#define WZ_SALE_SELLER      3
+#define WZ_SALE_SOURCE      4
+#define WZ_SALE_SINK        5
+#define WZ_SALE_KW          6
 
 #define WZ_HEADER_PARTICIPANTS 0
 #define WZ_HEADER_LOCATIONS    1
 #define WZ_HEADER_ROWS         2
 #define WZ_HEADER_TRANSACTIONS 3
-#define WZ_HEADER_SPARE        4 /* of a cause alone */
+#define WZ_HEADER_EDITION      4
 
 /*
  * The numbers of a cause, by their places; wz_find_cause has what they are.
@@ -249,13 +274,14 @@ extern "C" {
 #define WZ_METERED_LOAD  6u /* metered load is below 0 or above 20,000,000 */
 #define WZ_NO_SHARES     7u /* shares total 0 and the amount isn't 0 */
 #define WZ_CONTRACTS     8u /* contracts at a bus exceed its load */
-#define WZ_FILE          9u /* file of the wrong length, or a spare bit set */
+#define WZ_FILE          9u /* file of the wrong length or of an unknown
+                               edition, or a spare bit set */
 #define WZ_SURPLUS      10u /* surplus beyond 1,000,000,000 cents in size, or a
                                participant's share above 4,000,000,000 */
 
 /*
  * wz_sentence: the words of a refusal, for people: those of document 01's
- * table. WZ_OK is "done", and a number that is no refusal "unknown refusal";
+ * table, and of 9 also the edition. WZ_OK is "done", and a number that is no refusal "unknown refusal";
  * it is never NULL, and it is constant.
  *
  *   wz_sentence(WZ_CONTRACTS) is "contracts at a bus exceed its load".
@@ -283,7 +309,8 @@ static inline const char *wz_sentence(uint32_t refusal)
     case WZ_CONTRACTS:
         return "contracts at a bus exceed its load";
     case WZ_FILE:
-        return "file of the wrong length, or a spare bit set";
+        return "file of the wrong length or of an unknown edition, or a spare "
+               "bit set";
     case WZ_SURPLUS:
         return "surplus beyond 1,000,000,000 cents in size, or a participant's "
                "share above 4,000,000,000";
@@ -365,21 +392,22 @@ static inline const char *wz_part_word(int64_t part)
 
 static inline const char *wz_field_word(int64_t part, int64_t field)
 {
-    static const char *const words[][7] = {
-        {"", "", "", "", "", "", ""},
-        {"length in bytes", "", "", "", "", "", ""},
-        {"participants", "locations", "rows", "transactions", "spare bits", "",
+    static const char *const words[][8] = {
+        {"", "", "", "", "", "", "", ""},
+        {"length in bytes", "", "", "", "", "", "", ""},
+        {"participants", "locations", "rows", "transactions", "edition", "", "",
          ""},
-        {"mills per MWh", "", "", "", "", "", ""},
+        {"mills per MWh", "", "", "", "", "", "", ""},
         {"market", "kind", "interval", "participant", "location", "kW",
+         "spare bits", ""},
+        {"market", "interval", "participant", "source", "sink", "kW", "seller",
          "spare bits"},
-        {"market", "interval", "participant", "source", "sink", "kW", ""},
-        {"cents", "", "", "", "", "", ""},
-        {"kW", "", "", "", "", "", ""},
+        {"cents", "", "", "", "", "", "", ""},
+        {"kW", "", "", "", "", "", "", ""},
         {"length of prices in bytes", "length of rows in bytes",
-         "length of transactions in bytes", "", "", "", ""}};
+         "length of transactions in bytes", "", "", "", "", ""}};
 
-    if (part < 0 || part > WZ_PART_LIST || field < 0 || field > 6)
+    if (part < 0 || part > WZ_PART_LIST || field < 0 || field > 7)
         return "";
     return words[part][field];
 }
@@ -507,7 +535,7 @@ uint32_t wz_assign_load(int64_t metered, int64_t distributor,
  * wz_settle_hour: settle one market hour from an exercise file.
  *
  *   file        the file as its own bytes, laid out below; file_len is 83 to
- *               18,821
+ *               19,077
  *   congestion  written: each participant's congestion charge
  *   loss        written: each participant's loss charge
  *   credit      written: each participant's credit from the loss surplus
@@ -520,16 +548,18 @@ uint32_t wz_assign_load(int64_t metered, int64_t distributor,
  * The file is packed, the most significant bit first, without gaps:
  *
  *   header       40 bits: participants less 1 (6), locations less 1 (6), rows
- *                (12), transactions (10), spare (6); up to 64, 64, 2,048 and
- *                256 of them
+ *                (12), transactions (10), edition (6); up to 64, 64, 2,048 and
+ *                256 of them; edition 0 or 1
  *   prices       24 bits each, two's complement, in mills per MWh, -5,000,000
  *                to 5,000,000: congestion day-ahead for each location, then
  *                congestion real time interval by interval, then loss the same
  *                way
  *   row          48 bits: market (1), kind (3), interval (4), participant (6),
  *                location (6), kW (25), spare (3)
- *   transaction  48 bits: market (1), interval (4), participant (6), source
- *                (6), sink (6), kW (25)
+ *   transaction  of edition 0, 48 bits: market (1), interval (4), participant
+ *                (6), source (6), sink (6), kW (25)
+ *                of edition 1, 56 bits: market (1), interval (4), participant
+ *                (6), seller (6), source (6), sink (6), kW (25), spare (2)
  *
  * Spare bits are 0, kW are 0 to 20,000,000. Market 0 is day-ahead, where the
  * interval is 0; market 1 is real time, intervals 0 to 11. Kinds 0 (load), 2
@@ -549,10 +579,17 @@ uint32_t wz_assign_load(int64_t metered, int64_t distributor,
  * prices. A participant's exact total of either is rounded once, to the nearest
  * cent, halves away from zero.
  *
+ * In edition 1 a transaction is also a sale: besides its path, which the
+ * participant (the buyer) pays, its kW are an injection of the participant at
+ * the sink and a withdrawal of the seller at the source, in its own market and
+ * interval; those of a day-ahead one stand in every interval, as B and E do.
+ * Buyer and seller may be the same, and so may source and sink. To the exact
+ * total of all participants such a transaction adds nothing.
+ *
  * The surplus is the sum of all rounded loss charges. It is split, as wz_split
  * does, over the participants by the kW of their real-time load and exports
- * (rows of kinds 0 and 2), added up over the rows. So loss charges and credits
- * total the same cents.
+ * (rows of kinds 0 and 2), added up over the rows; a sale counts as neither. So
+ * loss charges and credits total the same cents.
  *
  *   Document 01's exercise, of 2 participants, 2 locations and 3 rows, gives
  *   congestion 0, 0; loss 1000, 390; credit 927, 463; net 73, -73.
@@ -560,7 +597,7 @@ uint32_t wz_assign_load(int64_t metered, int64_t distributor,
  * Refusals, in their order; wz_find_cause tells which number of the file it is:
  *
  *   WZ_FILE       the file has less than 5 bytes
- *   WZ_FILE       a spare bit of the header is set
+ *   WZ_FILE       its edition is neither 0 nor 1
  *   WZ_LENGTH     the header tells of more than 2,048 rows or 256 transactions
  *   WZ_FILE       the file is shorter or longer than its header tells
  *   WZ_LENGTH     congestion, loss, credit or net hasn't eight bytes for each
@@ -576,8 +613,10 @@ uint32_t wz_assign_load(int64_t metered, int64_t distributor,
  *
  *   then of each transaction in turn
  *   WZ_KIND       its interval isn't 0 day-ahead, or is above 11 in real time
- *   WZ_IDENTITY   its participant, source or sink is none of the file's
+ *   WZ_IDENTITY   its participant, its seller (edition 1), its source or its
+ *                 sink is none of the file's
  *   WZ_RANGE      its kW are above 20,000,000
+ *   WZ_FILE       a spare bit of it is set (edition 1)
  *
  *   WZ_SURPLUS    the surplus is below -1,000,000,000 or above 1,000,000,000
  *                 cents; or a participant's real-time load and exports add up
@@ -600,6 +639,7 @@ uint32_t wz_settle_hour(const uint8_t *file, size_t file_len,
  *                     how many there are: 1 to 64, 1 to 64, 0 to 2,048 and 0
  *                     to 256. These are counts; the "less 1" of the file's
  *                     header is the call's business
+ *   edition           0 or 1, whether there are transactions or not
  *   prices            26 numbers for each location, in mills per MWh,
  *                     -5,000,000 to 5,000,000, in the file's order: a stretch
  *                     of one price for each location, 26 times. Number
@@ -609,13 +649,15 @@ uint32_t wz_settle_hour(const uint8_t *file, size_t file_len,
  *                     intervals 0 to 11; prices_len is 208 times locations
  *   row_list          six numbers for each row: market, kind, interval,
  *                     participant, location, kW; row_list_len is 48 times rows
- *   transaction_list  six numbers for each transaction: market, interval,
- *                     participant, source, sink, kW; transaction_list_len is
- *                     48 times transactions
+ *   transaction_list  of edition 0 six numbers for each transaction: market,
+ *                     interval, participant, source, sink, kW; of edition 1
+ *                     seven: market, interval, participant, seller, source,
+ *                     sink, kW; transaction_list_len is 48, or 56, times
+ *                     transactions
  *   file              written: the file, from its first byte on. It has
- *                     WZ_FILE_BYTES(locations, rows, transactions) bytes,
- *                     18,821 at most, and file_len is at least that. Bytes
- *                     beyond the file stay as they are
+ *                     WZ_FILE_BYTES(locations, rows, transactions, edition)
+ *                     bytes, 19,077 at most, and file_len is at least that.
+ *                     Bytes beyond the file stay as they are
  *
  * Participants and locations are counted from 0 in rows and transactions. The
  * layout of the file, and what markets, kinds and intervals are, stands with
@@ -624,12 +666,16 @@ uint32_t wz_settle_hour(const uint8_t *file, size_t file_len,
  * on with its own length, not with that of a longer buffer. wz_read_file gives
  * the three lists back, each number as it was.
  *
- *   2 participants, 1 location, prices all 0, no transactions, and one row, 1,
- *   0, 11, 1, 0, 600 (real-time load of participant 1 in interval 11), give
- *   the 89 bytes 04 00 01 00 00, 78 times 00, 8b 04 00 00 12 c0.
+ *   2 participants, 1 location, prices all 0, no transactions, edition 0, and
+ *   one row, 1, 0, 11, 1, 0, 600 (real-time load of participant 1 in interval
+ *   11), give the 89 bytes 04 00 01 00 00, 78 times 00, 8b 04 00 00 12 c0.
+ *   Of edition 1 with one transaction besides, 0, 0, 1, 0, 0, 0, 600
+ *   (participant 1 buys 600 kW from participant 0, day-ahead), the 96 bytes
+ *   04 00 01 00 41, 78 times 00, 8b 04 00 00 12 c0, 00 20 00 00 00 09 60.
  *
  * Refusals, in their order; wz_find_list_cause tells which number it is:
  *
+ *   WZ_FILE       edition is neither 0 nor 1
  *   WZ_LENGTH     participants, locations, rows or transactions is outside its
  *                 range
  *   WZ_LENGTH     prices_len, row_list_len or transaction_list_len isn't what
@@ -646,7 +692,8 @@ uint32_t wz_settle_hour(const uint8_t *file, size_t file_len,
  *   then of each transaction in turn
  *   WZ_KIND       its market is neither 0 nor 1; or its interval isn't 0
  *                 day-ahead, or 0 to 11 in real time
- *   WZ_IDENTITY   its participant, source or sink is none of the hour's
+ *   WZ_IDENTITY   its participant, its seller (edition 1), its source or its
+ *                 sink is none of the hour's
  *   WZ_RANGE      its kW are outside 0 to 20,000,000
  *
  *   WZ_LENGTH     file_len is less than the file's bytes
@@ -654,7 +701,7 @@ uint32_t wz_settle_hour(const uint8_t *file, size_t file_len,
  * Stack: at most 1 KB.
  */
 uint32_t wz_write_file(int64_t participants, int64_t locations, int64_t rows,
-                       int64_t transactions,
+                       int64_t transactions, int64_t edition,
                        const uint8_t *prices, size_t prices_len,
                        const uint8_t *row_list, size_t row_list_len,
                        const uint8_t *transaction_list,
@@ -665,13 +712,14 @@ uint32_t wz_write_file(int64_t participants, int64_t locations, int64_t rows,
  * wz_read_file: read an exercise file as lists of numbers, those that
  * wz_write_file would write it from.
  *
- *   file              the file as its own bytes; file_len is 83 to 18,821
+ *   file              the file as its own bytes; file_len is 83 to 19,077
  *   prices            written: 26 numbers for each location
  *   row_list          written: six numbers for each row
- *   transaction_list  written: six numbers for each transaction
+ *   transaction_list  written: six numbers for each transaction, of edition 1
+ *                     seven
  *
  * The lists are those of wz_write_file, and as long. wz_counts gives how many
- * there are of each. Together with these four counts the lists make
+ * there are of each, and the edition. Together with these the lists make
  * wz_write_file write the same bytes again. What the hour comes to is not
  * worked out: a file whose surplus or shares are beyond their limits is read as
  * well.
@@ -680,7 +728,8 @@ uint32_t wz_write_file(int64_t participants, int64_t locations, int64_t rows,
  * in the place of the output lists
  *
  *   WZ_LENGTH     prices_len isn't 208 for each location, row_list_len 48 for
- *                 each row, or transaction_list_len 48 for each transaction
+ *                 each row, or transaction_list_len 48 (of edition 1 56) for
+ *                 each transaction
  *
  * Stack: at most 1 KB.
  */
@@ -707,25 +756,25 @@ uint32_t wz_read_file(const uint8_t *file, size_t file_len,
 uint32_t wz_participants(const uint8_t *file, size_t file_len);
 
 /*
- * wz_counts: the four counts of an exercise file.
+ * wz_counts: the counts of an exercise file, and its edition.
  *
- *   file    the file as its own bytes; an accepted one has 83 to 18,821
- *   counts  written: participants, locations, rows, transactions; four numbers,
- *           so counts_len is 32
+ *   file    the file as its own bytes; an accepted one has 83 to 19,077
+ *   counts  written: participants, locations, rows, transactions, edition; five
+ *           numbers, so counts_len is 40
  *
  * They give the lengths of wz_read_file's lists: 26 numbers for each location,
- * six for each row and six for each transaction. Prices, rows and transactions
- * aren't looked at.
+ * six for each row and WZ_TRANSACTION_NUMBERS(edition) for each transaction.
+ * Prices, rows and transactions aren't looked at.
  *
- *   Document 01's exercise has 2, 2, 3, 0.
+ *   Document 01's exercise has 2, 2, 3, 0, 0.
  *
  * Refusals, in their order:
  *
  *   WZ_FILE       the file has less than 5 bytes
- *   WZ_FILE       a spare bit of the header is set
+ *   WZ_FILE       its edition is neither 0 nor 1
  *   WZ_LENGTH     the header tells of more than 2,048 rows or 256 transactions
  *   WZ_FILE       the file is shorter or longer than its header tells
- *   WZ_LENGTH     counts_len isn't 32
+ *   WZ_LENGTH     counts_len isn't 40
  *
  * Stack: at most 1 KB.
  */
@@ -756,8 +805,8 @@ uint32_t wz_counts(const uint8_t *file, size_t file_len,
  * The tests are those of wz_settle_hour in their order, output lists aside. Of
  * each the part, the field, the least and the most, and the refusal:
  *
- *   WZ_PART_FILE    0  the length in bytes, under 5: 83 to 18821   WZ_FILE
- *   WZ_PART_HEADER  4  the spare bits as a number: 0 to 0          WZ_FILE
+ *   WZ_PART_FILE    0  the length in bytes, under 5: 83 to 19077   WZ_FILE
+ *   WZ_PART_HEADER  4  edition: 0 to 1                             WZ_FILE
  *                   2  rows: 0 to 2048                             WZ_LENGTH
  *                   3  transactions: 0 to 256                      WZ_LENGTH
  *   WZ_PART_FILE    0  the length in bytes: that which the header  WZ_FILE
@@ -777,9 +826,13 @@ uint32_t wz_counts(const uint8_t *file, size_t file_len,
  *   WZ_PART_TRANSACTION
  *                   1  interval, as of a row                       WZ_KIND
  *                   2  participant, as of a row                    WZ_IDENTITY
+ *                   6  seller, in edition 1: 0 to participants     WZ_IDENTITY
+ *                      less 1
  *                   3  source: 0 to locations less 1               WZ_IDENTITY
  *                   4  sink: 0 to locations less 1                 WZ_IDENTITY
  *                   5  kW: 0 to 20000000                           WZ_RANGE
+ *                   7  the spare bits as a number, in edition 1: 0 WZ_FILE
+ *                      to 0
  *
  *   WZ_PART_SURPLUS 0  cents: -1000000000 to 1000000000            WZ_SURPLUS
  *   WZ_PART_SHARE   0  each participant's real-time load and       WZ_SURPLUS
@@ -809,7 +862,7 @@ uint32_t wz_find_cause(const uint8_t *file, size_t file_len,
  * wz_find_list_cause: where an hour that is given in numbers is wrong: the
  * first number of it that keeps wz_write_file from writing it.
  *
- *   participants, locations, rows, transactions, prices, row_list,
+ *   participants, locations, rows, transactions, edition, prices, row_list,
  *   transaction_list  those of wz_write_file, of any numbers and lengths
  *   cause             written: seven numbers, so cause_len is 56
  *
@@ -817,7 +870,8 @@ uint32_t wz_find_cause(const uint8_t *file, size_t file_len,
  * wz_write_file answers where its buffer is long enough. The tests are those of
  * wz_write_file in their order:
  *
- *   WZ_PART_HEADER  0  participants: 1 to 64                       WZ_LENGTH
+ *   WZ_PART_HEADER  4  edition: 0 to 1                             WZ_FILE
+ *                   0  participants: 1 to 64                       WZ_LENGTH
  *                   1  locations: 1 to 64                          WZ_LENGTH
  *                   2  rows: 0 to 2048                             WZ_LENGTH
  *                   3  transactions: 0 to 256                      WZ_LENGTH
@@ -834,7 +888,7 @@ uint32_t wz_find_cause(const uint8_t *file, size_t file_len,
  *   then of each transaction in turn
  *   WZ_PART_TRANSACTION
  *                   0  market: 0 to 1                              WZ_KIND
- *                   1 to 5  as wz_find_cause has them
+ *                   1 to 6  as wz_find_cause has them
  *
  * A number below 0 is told as it is, and a length that no int64_t holds as a
  * number below 0. Where wz_write_file refuses for its buffer alone, there is no
@@ -848,10 +902,11 @@ uint32_t wz_find_cause(const uint8_t *file, size_t file_len,
  *
  *   WZ_LENGTH     cause_len isn't 56
  *
- * Stack: at most 1 KB.
+ * Stack: at most 2 KB.
  */
 uint32_t wz_find_list_cause(int64_t participants, int64_t locations,
                             int64_t rows, int64_t transactions,
+                            int64_t edition,
                             const uint8_t *prices, size_t prices_len,
                             const uint8_t *row_list, size_t row_list_len,
                             const uint8_t *transaction_list,

@@ -1,6 +1,6 @@
 /*
  * Checks wz_counts against the cases on standard input: file, counts before,
- * number, counts after.
+ * number, counts after, where the edition is the last.
  */
 #include "harness.h"
 #include "wunzelihle.h"

@@ -37,7 +37,7 @@ struct list output(const char *name, const char *before, const char *after);
 
 /* The numbers and the lists that a call is given. */
 struct given {
-    int64_t number[4];
+    int64_t number[5];
     const struct list *list;
 };
 

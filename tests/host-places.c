@@ -111,10 +111,11 @@ static void damage_file(const char *name, uint8_t *file, size_t len, int was_sou
 /* Lines as a text might have them: a line for each thing, in the file's order. */
 static void number_lines(struct lines *lines)
 {
-    size_t i, line = 3;
+    size_t i, line = 4;
 
     lines->participants = 1;
     lines->locations = 2;
+    lines->edition = 3;
     for (i = 0; i < WZ_LOCATION_PRICES; i++)
         lines->stretches[i] = line++;
     for (i = 0; i < ROOM; i++)
@@ -160,6 +161,7 @@ static void damage_counts(const char *name, struct hour *hour)
 {
     struct exercise *exercise = &hour->exercise;
     int64_t participants = exercise->participants, locations = exercise->locations;
+    int64_t edition = exercise->edition;
 
     exercise->participants = 65;
     check_text(name, hour, hour->lines.participants);
@@ -167,6 +169,21 @@ static void damage_counts(const char *name, struct hour *hour)
     exercise->locations = 0;
     check_text(name, hour, hour->lines.locations);
     exercise->locations = locations;
+    exercise->edition = 2;
+    check_text(name, hour, hour->lines.edition);
+    exercise->edition = INT64_MIN;
+    check_text(name, hour, hour->lines.edition);
+    exercise->edition = edition;
+}
+
+/* Damages each number of rows or transactions; their lines are given. */
+static void damage_entries(const char *name, struct hour *hour, struct entries *entries,
+                           const size_t *lines)
+{
+    size_t i;
+
+    for (i = 0; i < entries->width * entries->count; i++)
+        damage_number(name, hour, entries->numbers, i, lines[i / entries->width]);
 }
 
 static void damage_text(const char *name, const uint8_t *file, size_t len)
@@ -185,11 +202,8 @@ static void damage_text(const char *name, const uint8_t *file, size_t len)
     for (i = 0; i < WZ_LOCATION_PRICES * (size_t)exercise->locations; i++)
         damage_number(name, &hour, exercise->prices, i,
                       hour.lines.stretches[i / (size_t)exercise->locations]);
-    for (i = 0; i < ENTRY * exercise->rows.count; i++)
-        damage_number(name, &hour, exercise->rows.numbers, i, hour.lines.rows[i / ENTRY]);
-    for (i = 0; i < ENTRY * exercise->transactions.count; i++)
-        damage_number(name, &hour, exercise->transactions.numbers, i,
-                      hour.lines.transactions[i / ENTRY]);
+    damage_entries(name, &hour, &exercise->rows, hour.lines.rows);
+    damage_entries(name, &hour, &exercise->transactions, hour.lines.transactions);
 }
 
 int main(int argc, char **argv)

@@ -4,7 +4,9 @@
  *
  * - the text that the program prints is read back to the same numbers and the
  *   same bytes, and printed from there it is the same text;
- * - so is a text that is written here, in other units and other ways.
+ * - so is a text that is written here, in other units and other ways;
+ * - and both are so of the same hour in the other edition: each transaction gets
+ *   a seller, or loses it.
  *
  * Every other file is refused with the number of its statement. The texts are
  * kept in the folder.
@@ -17,7 +19,6 @@
 #include <stdarg.h>
 #include <stdio.h>
 #include <string.h>
-
 
 static const struct names no_names;
 static char printed_path[1000], again_path[1000], written_path[1000];
@@ -119,8 +120,10 @@ static void put_row(FILE *to, const struct entries *rows, size_t row)
     put_end(to);
 }
 
+/* A transaction of edition 1 has the seller after the participant. */
 static void put_transaction(FILE *to, const struct entries *transactions, size_t transaction)
 {
+    size_t sold = transactions->width == 7;
     int64_t interval = entry_number(transactions, transaction, 1);
     int real_time = entry_number(transactions, transaction, 0) == 1;
 
@@ -132,22 +135,40 @@ static void put_transaction(FILE *to, const struct entries *transactions, size_t
         put(to, "%" PRId64, interval);
     put(to, "participant");
     put(to, "%" PRId64, entry_number(transactions, transaction, 2));
+    if (sold) {
+        put(to, "seller");
+        put(to, "%" PRId64, entry_number(transactions, transaction, 3));
+    }
     put(to, "from");
-    put(to, "%" PRId64, entry_number(transactions, transaction, 3));
+    put(to, "%" PRId64, entry_number(transactions, transaction, 3 + sold));
     put(to, "to");
-    put(to, "%" PRId64, entry_number(transactions, transaction, 4));
-    put_power(to, entry_number(transactions, transaction, 5));
+    put(to, "%" PRId64, entry_number(transactions, transaction, 4 + sold));
+    put_power(to, entry_number(transactions, transaction, 5 + sold));
     put_end(to);
 }
 
-/* Prices, rows and transactions stand in turn here, each in their own order. */
+static void put_edition(FILE *to, const struct exercise *exercise)
+{
+    put(to, "edition");
+    put(to, "%" PRId64, exercise->edition);
+    put_end(to);
+}
+
+/*
+ * Prices, rows and transactions stand in turn here, each in their own order. The
+ * edition stands first, last or, where transactions tell it, nowhere.
+ */
 static int write_text(const struct exercise *exercise)
 {
     FILE *to = fopen(written_path, "wb");
     size_t s = WZ_LOCATION_PRICES, r = 0, t = 0;
+    int is_told = exercise->edition == 0 || exercise->transactions.count > 0;
+    unsigned where = any(is_told ? 3 : 2);
 
     if (!to)
         return 0;
+    if (where == 0)
+        put_edition(to, exercise);
     put(to, "locations");
     put(to, "%" PRId64, exercise->locations);
     put_end(to);
@@ -159,9 +180,32 @@ static int write_text(const struct exercise *exercise)
         if (t < exercise->transactions.count && any(3) == 0)
             put_transaction(to, &exercise->transactions, t++);
     }
+    if (where == 1)
+        put_edition(to, exercise);
     put(to, "participants");
     put(to, "%" PRId64, exercise->participants);
     return fclose(to) == 0;
+}
+
+/* ---- the other edition */
+
+/* The same hour, each transaction with a seller that nobody would guess, or without. */
+static void exchange_edition(const struct exercise *exercise, struct exercise *other)
+{
+    size_t sold = exercise->edition == 0, t, i;
+
+    *other = *exercise;
+    other->edition = (int64_t)sold;
+    other->transactions.width = 6 + sold;
+    for (t = 0; t < other->transactions.count; t++) {
+        uint8_t *numbers = other->transactions.numbers + 8 * (6 + sold) * t;
+
+        for (i = 0; i < 6; i++)
+            wz_put(numbers, i < 3 ? i : i + sold,
+                   entry_number(&exercise->transactions, t, i < 3 || sold ? i : i + 1));
+        if (sold)
+            wz_put(numbers, 3, any((unsigned)other->participants));
+    }
 }
 
 /* ---- the tests */
@@ -232,9 +276,20 @@ static int expected_refusal(const char *name, uint32_t *refusal)
     return 1;
 }
 
+/* The hour of a file comes back from the program's text and from another. */
+static int is_kept(const char *name, const struct exercise *exercise, const uint8_t *file,
+                   size_t len)
+{
+    if (!print_to(printed_path, exercise) || !comes_back(printed_path, file, len))
+        return is_wrong(name, "the text that is printed doesn't come back");
+    if (!write_text(exercise) || !comes_back(written_path, file, len))
+        return is_wrong(name, "a text in other ways doesn't come back");
+    return 1;
+}
+
 static int is_right(const char *name)
 {
-    static struct exercise exercise;
+    static struct exercise exercise, other;
     char path[1000];
     uint8_t file[WZ_LONGEST_FILE + 1];
     uint32_t expected, refusal;
@@ -248,11 +303,12 @@ static int is_right(const char *name)
         return is_wrong(name, "read otherwise than its statement says");
     if (refusal != WZ_OK)
         return 1;
-    if (!print_to(printed_path, &exercise) || !comes_back(printed_path, file, len))
-        return is_wrong(name, "the text that is printed doesn't come back");
-    if (!write_text(&exercise) || !comes_back(written_path, file, len))
-        return is_wrong(name, "a text in other ways doesn't come back");
-    return 1;
+    if (!is_kept(name, &exercise, file, len))
+        return 0;
+    exchange_edition(&exercise, &other);
+    if (write_exercise(&other, file, &len) != WZ_OK)
+        return is_wrong(name, "it can't be written in the other edition");
+    return is_kept(name, &other, file, len);
 }
 
 int main(int argc, char **argv)

@@ -188,31 +188,38 @@ static uint32_t assign_to(int64_t participants)
 
 /* An hour of prices, rows and transactions that are 0 but for those that are set. */
 struct hour {
-    int64_t participants, locations, rows, transactions;
+    int64_t participants, locations, rows, transactions, edition;
     size_t price_numbers, row_numbers, transaction_numbers;
     uint8_t prices ROOM(WZ_MOST_LOCATIONS, WZ_LOCATION_PRICES + 1);
     uint8_t row_list ROOM(WZ_MOST_ROWS, WZ_ROW_NUMBERS + 1);
-    uint8_t transaction_list ROOM(WZ_MOST_TRANSACTIONS, WZ_TRANSACTION_NUMBERS + 1);
+    uint8_t transaction_list ROOM(WZ_MOST_TRANSACTIONS, WZ_MOST_TRANSACTION_NUMBERS + 1);
 };
 
-/* The smallest: one participant, one location. */
-static struct hour *fresh_hour(void)
+/* The smallest of an edition: one participant, one location. */
+static struct hour *hour_of(int64_t edition)
 {
     static struct hour hour;
 
     memset(&hour, 0, sizeof hour);
     hour.participants = hour.locations = 1;
+    hour.edition = edition;
     hour.price_numbers = WZ_LOCATION_PRICES;
     hour.row_numbers = WZ_ROW_NUMBERS;
-    hour.transaction_numbers = WZ_TRANSACTION_NUMBERS;
+    hour.transaction_numbers = (size_t)WZ_TRANSACTION_NUMBERS(edition);
     return &hour;
+}
+
+static struct hour *fresh_hour(void)
+{
+    return hour_of(0);
 }
 
 /* Writes the file, which is as long as it can be or as long as there is room. */
 static uint32_t write_to(const struct hour *hour, uint8_t *file, size_t room)
 {
     return wz_write_file(hour->participants, hour->locations, hour->rows, hour->transactions,
-                         hour->prices, WZ_NUMBER * hour->price_numbers * (size_t)hour->locations,
+                         hour->edition, hour->prices,
+                         WZ_NUMBER * hour->price_numbers * (size_t)hour->locations,
                          hour->row_list, WZ_NUMBER * hour->row_numbers * (size_t)hour->rows,
                          hour->transaction_list,
                          WZ_NUMBER * hour->transaction_numbers * (size_t)hour->transactions,
@@ -275,13 +282,40 @@ static uint32_t write_row(int64_t numbers)
     return written(hour);
 }
 
-static uint32_t write_transaction(int64_t numbers)
+/* A transaction of so many numbers. */
+static uint32_t write_transaction(int64_t edition, int64_t numbers)
 {
-    struct hour *hour = fresh_hour();
+    struct hour *hour = hour_of(edition);
 
     hour->transactions = 1;
     hour->transaction_numbers = (size_t)numbers;
     return written(hour);
+}
+
+static uint32_t write_path(int64_t numbers)
+{
+    return write_transaction(0, numbers);
+}
+
+static uint32_t write_sale(int64_t numbers)
+{
+    return write_transaction(1, numbers);
+}
+
+/* An edition of six numbers for a transaction, and one of seven. */
+static uint32_t write_edition_of_6(int64_t edition)
+{
+    return write_transaction(edition, 6);
+}
+
+static uint32_t write_edition_of_7(int64_t edition)
+{
+    return write_transaction(edition, 7);
+}
+
+static uint32_t write_edition(int64_t edition)
+{
+    return written(hour_of(edition));
 }
 
 static uint32_t write_price(int64_t price)
@@ -313,7 +347,27 @@ static uint32_t write_kw(int64_t kw)
     struct hour *hour = fresh_hour();
 
     hour->transactions = 1;
-    wz_put(hour->transaction_list, 5, kw);
+    wz_put(hour->transaction_list, WZ_TRANSACTION_KW, kw);
+    return written(hour);
+}
+
+static uint32_t write_sale_of(int64_t kw)
+{
+    struct hour *hour = hour_of(1);
+
+    hour->transactions = 1;
+    wz_put(hour->transaction_list, WZ_SALE_KW, kw);
+    return written(hour);
+}
+
+/* The last of so many participants sells; they are as many as there may be. */
+static uint32_t write_seller(int64_t participants)
+{
+    struct hour *hour = hour_of(1);
+
+    hour->participants = 64;
+    hour->transactions = 1;
+    wz_put(hour->transaction_list, WZ_SALE_SELLER, participants - 1);
     return written(hour);
 }
 
@@ -327,7 +381,7 @@ static uint32_t write_shortest(int64_t room)
 static uint32_t write_longest(int64_t room)
 {
     static uint8_t file[WZ_LONGEST_FILE + 1];
-    struct hour *hour = fresh_hour();
+    struct hour *hour = hour_of(1);
 
     hour->participants = WZ_MOST_PARTICIPANTS;
     hour->locations = WZ_MOST_LOCATIONS;
@@ -343,7 +397,7 @@ static uint32_t settle(const struct hour *hour)
 {
     static uint8_t file[WZ_LONGEST_FILE];
     uint8_t cents[4][WZ_NUMBER];
-    size_t len = WZ_SHORTEST_FILE + 6 * (size_t)(hour->rows + hour->transactions);
+    size_t len = WZ_FILE_BYTES(1, hour->rows, hour->transactions, hour->edition);
 
     if (write_to(hour, file, sizeof file) != WZ_OK)
         return UINT32_MAX;
@@ -411,7 +465,7 @@ static uint32_t find_lists_into(int64_t numbers)
 {
     uint8_t cause ROOM(WZ_CAUSE_NUMBERS, 1);
 
-    return wz_find_list_cause(0, 0, 0, 0, NULL, 0, NULL, 0, NULL, 0, cause,
+    return wz_find_list_cause(0, 0, 0, 0, 0, NULL, 0, NULL, 0, NULL, 0, cause,
                               WZ_NUMBER * (size_t)numbers);
 }
 
@@ -440,8 +494,10 @@ static const struct limit limits[] = {
     LIMIT(WZ_MOST_AMOUNT, MOST, settle_surplus_below_0, WZ_SURPLUS),
     LIMIT(WZ_MOST_KW, MOST, assign_kw, WZ_RANGE),
     LIMIT(WZ_MOST_KW, MOST, write_kw, WZ_RANGE),
+    LIMIT(WZ_MOST_KW, MOST, write_sale_of, WZ_RANGE),
     LIMIT(WZ_MOST_PARTICIPANTS, MOST, assign_to, WZ_IDENTITY),
     LIMIT(WZ_MOST_PARTICIPANTS, MOST, write_participants, WZ_LENGTH),
+    LIMIT(WZ_MOST_PARTICIPANTS, MOST, write_seller, WZ_IDENTITY),
     LIMIT(WZ_MOST_BUSES, MOST, assign_buses, WZ_LENGTH),
     LIMIT(WZ_MOST_METERS, MOST, assign_meters, WZ_LENGTH),
     LIMIT(WZ_MOST_GENERATORS, MOST, assign_generators, WZ_LENGTH),
@@ -458,7 +514,12 @@ static const struct limit limits[] = {
     LIMIT(WZ_MOST_PRICE, MOST, write_price_below_0, WZ_RANGE),
     LIMIT(WZ_LOCATION_PRICES, BOTH, write_prices, WZ_LENGTH),
     LIMIT(WZ_ROW_NUMBERS, BOTH, write_row, WZ_LENGTH),
-    LIMIT(WZ_TRANSACTION_NUMBERS, BOTH, write_transaction, WZ_LENGTH),
+    LIMIT(WZ_EDITION_PATH_ONLY, LEAST, write_edition_of_6, WZ_FILE),
+    LIMIT(WZ_EDITION_WITH_SELLER, MOST, write_edition_of_7, WZ_FILE),
+    LIMIT(WZ_LAST_EDITION, MOST, write_edition, WZ_FILE),
+    LIMIT(WZ_TRANSACTION_NUMBERS(0), BOTH, write_path, WZ_LENGTH),
+    LIMIT(WZ_TRANSACTION_NUMBERS(1), BOTH, write_sale, WZ_LENGTH),
+    LIMIT(WZ_MOST_TRANSACTION_NUMBERS, BOTH, write_sale, WZ_LENGTH),
     LIMIT(WZ_SHORTEST_FILE, LEAST, write_shortest, WZ_LENGTH),
     LIMIT(WZ_LONGEST_FILE, LEAST, write_longest, WZ_LENGTH),
     LIMIT(WZ_COUNT_NUMBERS, BOTH, count_into, WZ_LENGTH),

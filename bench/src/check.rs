@@ -4,6 +4,7 @@
 use crate::exercise::File;
 use crate::timing::{self, Case};
 use reference::cases;
+use reference::exercise::Edition;
 use reference::random::Random;
 
 const CASES: usize = 16;
@@ -48,7 +49,7 @@ pub fn compare() {
     timing::try_plain::<Check>();
     let mut random = Random::new(1);
     let mut case = || Check {
-        file: cases::hour::accepted(64, 64, 2_048, 256, &mut random).bytes(),
+        file: cases::hour::accepted(Edition::WithSeller, 64, 64, 2_048, 256, &mut random).bytes(),
     };
     let cases: Vec<Check> = (0..CASES).map(|_| case()).collect();
     timing::compare("check of the longest file", &cases);

@@ -6,6 +6,7 @@ pub const STAGES: usize = 13;
 pub const HEADER: usize = 5;
 pub const PRICE: usize = 3;
 pub const ROW: usize = 6;
+pub const SALE: usize = 7;
 pub const MOST_PRICE: i32 = 5_000_000;
 pub const MOST_KW: i64 = 20_000_000;
 
@@ -16,17 +17,22 @@ pub struct File<'a> {
     prices: &'a [u8],
     rows: &'a [u8],
     transactions: &'a [u8],
+    /// Transactions are sales.
+    pub sells: bool,
 }
 
-/// A row, or a transaction with its source as the location.
+/// A row, or a transaction with its source as the location. Where there is no
+/// seller, it is the participant.
 pub struct Row {
     pub real_time: bool,
     pub kind: usize,
     pub interval: usize,
     pub participant: usize,
+    pub seller: usize,
     pub location: usize,
     pub sink: usize,
     pub kw: i64,
+    spare: u64,
 }
 
 impl File<'_> {
@@ -40,14 +46,16 @@ impl File<'_> {
         let locations = 1 + (header >> 28 & 63) as usize;
         let rows = (header >> 16 & 4_095) as usize;
         let transactions = (header >> 6 & 1_023) as usize;
-        if header & 63 != 0 {
+        if header & 63 > 1 {
             return Err(9);
         }
+        let sells = header & 63 == 1;
         if rows > 2_048 || transactions > 256 {
             return Err(1);
         }
         let prices = 2 * STAGES * PRICE * locations;
-        if file.len() != HEADER + prices + ROW * (rows + transactions) {
+        let transaction = if sells { SALE } else { ROW };
+        if file.len() != HEADER + prices + ROW * rows + transaction * transactions {
             return Err(9);
         }
         let (prices, rest) = file[HEADER..].split_at(prices);
@@ -58,6 +66,7 @@ impl File<'_> {
             prices,
             rows,
             transactions,
+            sells,
         })
     }
 
@@ -81,14 +90,11 @@ impl File<'_> {
 
     /// Hands on each row in its turn.
     pub fn rows(&self, mut each: impl FnMut(Row)) -> Result<(), u32> {
-        for (six, row) in self.rows.chunks_exact(ROW).zip(self.untested_rows()) {
+        for row in self.untested_rows() {
             if row.kind > if row.real_time { 3 } else { 5 } {
                 return Err(4);
             }
             self.test(&row)?;
-            if six[5] & 7 != 0 {
-                return Err(9);
-            }
             each(row);
         }
         Ok(())
@@ -96,9 +102,16 @@ impl File<'_> {
 
     /// Hands on each transaction in its turn.
     pub fn transactions(&self, mut each: impl FnMut(Row)) -> Result<(), u32> {
-        for transaction in self.untested_transactions() {
-            self.test(&transaction)?;
-            each(transaction);
+        if self.sells {
+            for sale in self.untested_sales() {
+                self.test(&sale)?;
+                each(sale);
+            }
+        } else {
+            for path in self.untested_paths() {
+                self.test(&path)?;
+                each(path);
+            }
         }
         Ok(())
     }
@@ -111,30 +124,53 @@ impl File<'_> {
     pub fn untested_rows(&self) -> impl Iterator<Item = Row> + '_ {
         self.rows.chunks_exact(ROW).map(|six| {
             let word = word(six);
+            let participant = (word >> 34 & 63) as usize;
             let location = (word >> 28 & 63) as usize;
             Row {
                 real_time: word >> 47 == 1,
                 kind: (word >> 44 & 7) as usize,
                 interval: (word >> 40 & 15) as usize,
-                participant: (word >> 34 & 63) as usize,
+                participant,
+                seller: participant,
                 location,
                 sink: location,
                 kw: (word >> 3 & 0x1ff_ffff) as i64,
+                spare: word & 7,
             }
         })
     }
 
-    pub fn untested_transactions(&self) -> impl Iterator<Item = Row> + '_ {
+    pub fn untested_paths(&self) -> impl Iterator<Item = Row> + '_ {
         self.transactions.chunks_exact(ROW).map(|six| {
             let word = word(six);
+            let participant = (word >> 37 & 63) as usize;
             Row {
                 real_time: word >> 47 == 1,
                 kind: 0,
                 interval: (word >> 43 & 15) as usize,
-                participant: (word >> 37 & 63) as usize,
+                participant,
+                seller: participant,
                 location: (word >> 31 & 63) as usize,
                 sink: (word >> 25 & 63) as usize,
                 kw: (word & 0x1ff_ffff) as i64,
+                spare: 0,
+            }
+        })
+    }
+
+    pub fn untested_sales(&self) -> impl Iterator<Item = Row> + '_ {
+        self.transactions.chunks_exact(SALE).map(|seven| {
+            let word = word(seven) << 8 | u64::from(seven[6]);
+            Row {
+                real_time: word >> 55 == 1,
+                kind: 0,
+                interval: (word >> 51 & 15) as usize,
+                participant: (word >> 45 & 63) as usize,
+                seller: (word >> 39 & 63) as usize,
+                location: (word >> 33 & 63) as usize,
+                sink: (word >> 27 & 63) as usize,
+                kw: (word >> 2 & 0x1ff_ffff) as i64,
+                spare: word & 3,
             }
         })
     }
@@ -145,6 +181,7 @@ impl File<'_> {
             return Err(4);
         }
         if row.participant >= self.participants
+            || row.seller >= self.participants
             || row.location >= self.locations
             || row.sink >= self.locations
         {
@@ -153,11 +190,14 @@ impl File<'_> {
         if row.kw > MOST_KW {
             return Err(2);
         }
+        if row.spare != 0 {
+            return Err(9);
+        }
         Ok(())
     }
 }
 
-/// Six bytes, the first the most significant.
+/// The first six bytes, the first the most significant.
 fn word(six: &[u8]) -> u64 {
     let high = u32::from_be_bytes(six[..4].try_into().unwrap());
     let low = u16::from_be_bytes(six[4..6].try_into().unwrap());

@@ -4,6 +4,7 @@ use crate::exercise::{File, STAGES};
 use crate::shares::{split, PARTIES};
 use crate::timing::{self, Case};
 use reference::cases;
+use reference::exercise::Edition;
 use reference::random::Random;
 
 extern "C" {
@@ -92,18 +93,46 @@ pub fn compare() {
     let sizes = [
         (
             "hour: 64 x 64, 2,048 rows, 256 transactions",
+            Edition::PathOnly,
             16,
             64,
             2_048,
             256,
         ),
-        ("hour: 16 x 16, 256 rows", 64, 16, 256, 0),
+        (
+            "hour: 64 x 64, 2,048 rows, 256 transactions with sellers",
+            Edition::WithSeller,
+            16,
+            64,
+            2_048,
+            256,
+        ),
+        ("hour: 16 x 16, 256 rows", Edition::PathOnly, 64, 16, 256, 0),
+        (
+            "hour: 16 x 16, 256 transactions",
+            Edition::PathOnly,
+            64,
+            16,
+            1,
+            256,
+        ),
+        (
+            "hour: 16 x 16, 256 transactions with sellers",
+            Edition::WithSeller,
+            64,
+            16,
+            1,
+            256,
+        ),
     ];
-    for (name, count, size, rows, transactions) in sizes {
+    for (name, edition, count, size, rows, transactions) in sizes {
         let mut random = Random::new(1);
-        let mut case = || Hour {
-            file: cases::hour::accepted(size, size, rows, transactions, &mut random).bytes(),
-            lens: [8 * size; 4],
+        let mut case = || {
+            let case = cases::hour::accepted(edition, size, size, rows, transactions, &mut random);
+            Hour {
+                file: case.bytes(),
+                lens: [8 * size; 4],
+            }
         };
         let cases: Vec<Hour> = (0..count).map(|_| case()).collect();
         timing::compare(name, &cases);
@@ -190,12 +219,20 @@ fn settle(file: &[u8], lists: [&mut [u8]; 4]) -> Result<(), u32> {
         account[1] += kw * loss;
         account[2] += if row.real_time & withdraws { kw } else { 0 };
     })?;
+    let sells = file.sells;
     file.transactions(|row| {
         let source = weights.at(row.real_time, row.interval, row.location);
         let sink = weights.at(row.real_time, row.interval, row.sink);
         let account = &mut accounts[row.participant];
         account[0] += row.kw * (sink[0] - source[0]);
         account[1] += row.kw * (sink[1] - source[1]);
+        if sells {
+            account[0] -= row.kw * sink[0];
+            account[1] -= row.kw * sink[1];
+            let seller = &mut accounts[row.seller];
+            seller[0] += row.kw * source[0];
+            seller[1] += row.kw * source[1];
+        }
     })?;
 
     let accounts = &mut accounts[..participants];
@@ -239,7 +276,7 @@ fn cents(twelfths: i64) -> i64 {
 #[cfg(any(feature = "write", feature = "read"))]
 pub fn longest() -> Vec<cases::hour::Case> {
     let mut random = Random::new(1);
-    let mut case = || cases::hour::accepted(64, 64, 2_048, 256, &mut random);
+    let mut case = || cases::hour::accepted(Edition::WithSeller, 64, 64, 2_048, 256, &mut random);
     (0..16).map(|_| case()).collect()
 }
 

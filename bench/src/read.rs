@@ -1,6 +1,6 @@
 //! wz_read_file beside plain Rust and beside settling the same hour.
 
-use crate::exercise::{File, Row};
+use crate::exercise::{File, Row, SALE};
 use crate::hour::{longest, settle_beside};
 use crate::timing::{self, Answer, Case};
 use reference::cases;
@@ -112,11 +112,16 @@ fn read(file: &[u8], lists: [&mut [u8]; 3]) -> Result<(), u32> {
     for (six, row) in rows.chunks_exact_mut(48).zip(file.untested_rows()) {
         put(six, row_numbers(&row));
     }
-    for (six, row) in transactions
-        .chunks_exact_mut(48)
-        .zip(file.untested_transactions())
-    {
-        put(six, transaction_numbers(&row));
+    if file.sells {
+        let sevens = transactions.chunks_exact_mut(8 * SALE);
+        for (seven, row) in sevens.zip(file.untested_sales()) {
+            put(seven, sale_numbers(&row));
+        }
+    } else {
+        let sixes = transactions.chunks_exact_mut(48);
+        for (six, row) in sixes.zip(file.untested_paths()) {
+            put(six, path_numbers(&row));
+        }
     }
     Ok(())
 }
@@ -132,7 +137,19 @@ fn row_numbers(row: &Row) -> [i64; 6] {
     ]
 }
 
-fn transaction_numbers(row: &Row) -> [i64; 6] {
+fn sale_numbers(row: &Row) -> [i64; 7] {
+    [
+        row.real_time as i64,
+        row.interval as i64,
+        row.participant as i64,
+        row.seller as i64,
+        row.location as i64,
+        row.sink as i64,
+        row.kw,
+    ]
+}
+
+fn path_numbers(row: &Row) -> [i64; 6] {
     [
         row.real_time as i64,
         row.interval as i64,

@@ -1,6 +1,6 @@
 //! wz_write_file beside plain Rust and beside settling the same hour.
 
-use crate::exercise::{HEADER, MOST_KW, MOST_PRICE, PRICE, ROW, STAGES};
+use crate::exercise::{HEADER, MOST_KW, MOST_PRICE, PRICE, ROW, SALE, STAGES};
 use crate::hour::{longest, settle_beside};
 use crate::shares::number;
 use crate::timing::{self, Answer, Case};
@@ -14,6 +14,7 @@ extern "C" {
         locations: i64,
         rows: i64,
         transactions: i64,
+        edition: i64,
         prices: *const u8,
         prices_len: usize,
         row_list: *const u8,
@@ -46,6 +47,7 @@ impl Case for Write {
                 given.locations,
                 given.rows,
                 given.transactions,
+                given.edition,
                 given.prices.as_ptr(),
                 given.prices.len(),
                 given.row_list.as_ptr(),
@@ -98,11 +100,16 @@ pub fn compare() {
 }
 
 const PRICES: usize = 2 * STAGES;
-const LONGEST: usize = HEADER + PRICE * PRICES * 64 + ROW * (2_048 + 256);
+const LONGEST: usize = HEADER + PRICE * PRICES * 64 + ROW * 2_048 + SALE * 256;
 
 /// Plain Rust: tested and packed in one pass, as nothing may be written before
 /// all is tested.
 fn write(given: &Given, out: &mut [u8]) -> Result<(), u32> {
+    let transaction = match given.edition {
+        0 => ROW,
+        1 => SALE,
+        _ => return Err(9),
+    };
     let counts = [
         (given.participants, 1, 64),
         (given.locations, 1, 64),
@@ -118,7 +125,7 @@ fn write(given: &Given, out: &mut [u8]) -> Result<(), u32> {
     let [participants, locations, rows, transactions] = counts.map(|count| count.0 as usize);
     if given.prices.len() != 8 * PRICES * locations
         || given.row_list.len() != 8 * ROW * rows
-        || given.transaction_list.len() != 8 * ROW * transactions
+        || given.transaction_list.len() != 8 * transaction * transactions
     {
         return Err(1);
     }
@@ -128,7 +135,7 @@ fn write(given: &Given, out: &mut [u8]) -> Result<(), u32> {
     let (prices, rest) = rest.split_at_mut(PRICE * PRICES * locations);
     let (to_rows, rest) = rest.split_at_mut(ROW * rows);
     let word = (participants - 1) << 34 | (locations - 1) << 28 | rows << 16 | transactions << 6;
-    header.copy_from_slice(&(word as u64).to_be_bytes()[3..]);
+    header.copy_from_slice(&(word as u64 | given.edition as u64).to_be_bytes()[3..]);
     for (three, eight) in prices
         .chunks_exact_mut(PRICE)
         .zip(given.prices.chunks_exact(8))
@@ -147,13 +154,21 @@ fn write(given: &Given, out: &mut [u8]) -> Result<(), u32> {
         let word = row_word(row, limits)?;
         six.copy_from_slice(&word.to_be_bytes()[2..]);
     }
-    let paths = given.transaction_list.chunks_exact(48);
-    for (six, path) in rest.chunks_exact_mut(ROW).zip(paths) {
-        let word = transaction_word(path, limits)?;
-        six.copy_from_slice(&word.to_be_bytes()[2..]);
+    let entries = given.transaction_list.chunks_exact(8 * transaction);
+    let places = rest.chunks_exact_mut(transaction);
+    if transaction == ROW {
+        for (six, path) in places.zip(entries) {
+            let word = path_word(path, limits)?;
+            six.copy_from_slice(&word.to_be_bytes()[2..]);
+        }
+    } else {
+        for (seven, sale) in places.zip(entries) {
+            let word = sale_word(sale, limits)?;
+            seven.copy_from_slice(&word.to_be_bytes()[1..]);
+        }
     }
 
-    let len = HEADER + PRICE * PRICES * locations + ROW * (rows + transactions);
+    let len = HEADER + PRICE * PRICES * locations + ROW * rows + transaction * transactions;
     let file = out.get_mut(..len).ok_or(1_u32)?;
     file.copy_from_slice(&packed[..len]);
     Ok(())
@@ -161,7 +176,7 @@ fn write(given: &Given, out: &mut [u8]) -> Result<(), u32> {
 
 /// The bits of a row. A number below 0 is beyond every limit.
 fn row_word(row: &[u8], [participants, locations]: [u64; 2]) -> Result<u64, u32> {
-    let [market, kind, interval, participant, location, kw] = six(row);
+    let [market, kind, interval, participant, location, kw] = numbers(row);
     let (kinds, intervals) = if market == 0 { (6, 1) } else { (4, 12) };
     if market > 1 || kind >= kinds || interval >= intervals {
         return Err(4);
@@ -175,8 +190,8 @@ fn row_word(row: &[u8], [participants, locations]: [u64; 2]) -> Result<u64, u32>
     Ok(market << 47 | kind << 44 | interval << 40 | participant << 34 | location << 28 | kw << 3)
 }
 
-fn transaction_word(path: &[u8], [participants, locations]: [u64; 2]) -> Result<u64, u32> {
-    let [market, interval, participant, source, sink, kw] = six(path);
+fn path_word(path: &[u8], [participants, locations]: [u64; 2]) -> Result<u64, u32> {
+    let [market, interval, participant, source, sink, kw] = numbers(path);
     if market > 1 || interval >= if market == 0 { 1 } else { 12 } {
         return Err(4);
     }
@@ -189,7 +204,27 @@ fn transaction_word(path: &[u8], [participants, locations]: [u64; 2]) -> Result<
     Ok(market << 47 | interval << 43 | participant << 37 | source << 31 | sink << 25 | kw)
 }
 
-fn six(entry: &[u8]) -> [u64; 6] {
-    let entry: &[u8; 48] = entry.try_into().unwrap();
+fn sale_word(sale: &[u8], [participants, locations]: [u64; 2]) -> Result<u64, u32> {
+    let [market, interval, participant, seller, source, sink, kw] = numbers(sale);
+    if market > 1 || interval >= if market == 0 { 1 } else { 12 } {
+        return Err(4);
+    }
+    if participant >= participants
+        || seller >= participants
+        || source >= locations
+        || sink >= locations
+    {
+        return Err(3);
+    }
+    if kw > MOST_KW as u64 {
+        return Err(2);
+    }
+    let start = market << 55 | interval << 51 | participant << 45 | seller << 39;
+    Ok(start | source << 33 | sink << 27 | kw << 2)
+}
+
+/// The numbers of an entry that has so many.
+fn numbers<const COUNT: usize>(entry: &[u8]) -> [u64; COUNT] {
+    let entry = &entry[..8 * COUNT];
     std::array::from_fn(|i| number(&entry[8 * i..8 * i + 8]) as u64)
 }

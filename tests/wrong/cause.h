@@ -4,23 +4,26 @@
 
 static int test_header(struct cause *cause, const uint8_t *file, size_t file_len)
 {
-    struct place spare = {WZ_PART_HEADER, 0, 4}, rows = {WZ_PART_HEADER, 0, 2},
-                 transactions = {WZ_PART_HEADER, 0, 3}, length = {WZ_PART_FILE, 0, 0};
-    int64_t len = (int64_t)file_len, right;
+    struct place rows = {WZ_PART_HEADER, 0, 2}, transactions = {WZ_PART_HEADER, 0, 3},
+                 length = {WZ_PART_FILE, 0, 0};
+    int64_t len = (int64_t)file_len, edition, right;
 
     if (file_len < 5) {
         tell(cause, WZ_FILE, length, len, MISTAKE == HEADER_IS_ENOUGH ? 5 : WZ_SHORTEST_FILE,
              WZ_LONGEST_FILE);
         return 0;
     }
-    if (MISTAKE == TRANSACTIONS_FIRST && bits_of(file, 34, 6) == 0 &&
+    edition = bits_of(file, 34, 6);
+    if (MISTAKE == TRANSACTIONS_FIRST && is_edition(edition) &&
         !within(cause, WZ_LENGTH, transactions, bits_of(file, 24, 10), 0, WZ_MOST_TRANSACTIONS))
         return 0;
-    if (!within(cause, WZ_FILE, spare, bits_of(file, 34, 6), 0, 0) ||
+    if ((MISTAKE != EDITION_LATE && !edition_stands(cause, edition)) ||
         !within(cause, WZ_LENGTH, rows, bits_of(file, 12, 12), 0, WZ_MOST_ROWS) ||
-        !within(cause, WZ_LENGTH, transactions, bits_of(file, 24, 10), 0, WZ_MOST_TRANSACTIONS))
+        !within(cause, WZ_LENGTH, transactions, bits_of(file, 24, 10), 0, WZ_MOST_TRANSACTIONS) ||
+        !edition_stands(cause, edition))
         return 0;
-    right = 5 + 78 * (bits_of(file, 6, 6) + 1) + 6 * (bits_of(file, 12, 12) + bits_of(file, 24, 10));
+    right = 5 + 78 * (bits_of(file, 6, 6) + 1) + 6 * bits_of(file, 12, 12) +
+            (int64_t)transaction_bytes(edition) * bits_of(file, 24, 10);
     if (MISTAKE == LENGTH_FOR_FOUND && len != right) {
         tell(cause, WZ_FILE, length, right, len, len);
         return 0;
@@ -47,25 +50,27 @@ static int test_prices(struct cause *cause, const uint8_t *file, const struct he
     return 1;
 }
 
-/* The numbers of a row or a transaction, whose fields have so many bits. */
-static void take(int64_t *number, const uint8_t *six, const size_t *bits, size_t fields)
+/* The numbers of a row or a transaction, by fields of so many bits. */
+static void take(int64_t *number, const uint8_t *entry, const int64_t *field, const size_t *bits,
+                 size_t fields)
 {
     size_t at = 0, i;
 
     for (i = 0; i < fields; at += bits[i++])
-        number[i] = bits_of(six, at, bits[i]);
+        number[field[i]] = bits_of(entry, at, bits[i]);
 }
 
 static int test_rows(struct cause *cause, const uint8_t *file, const struct header *header,
                      const struct counted *counted)
 {
+    static const int64_t fields[] = {0, 1, 2, 3, 4, 5, 6};
     static const size_t bits[] = {1, 3, 4, 6, 6, 25, 3};
     int64_t number[7];
     int right = 1;
     size_t i;
 
     for (i = 0; i < header->rows && (right || MISTAKE == LAST_REFUSED); i++) {
-        take(number, rows_of(file, header) + 6 * i, bits, 7);
+        take(number, rows_of(file, header) + 6 * i, fields, bits, 7);
         right &= row_stands(cause, (int64_t)i, number, counted);
     }
     return right;
@@ -74,13 +79,15 @@ static int test_rows(struct cause *cause, const uint8_t *file, const struct head
 static int test_transactions(struct cause *cause, const uint8_t *file, const struct header *header,
                              const struct counted *counted)
 {
-    static const size_t bits[] = {1, 4, 6, 6, 6, 25};
+    static const size_t path[] = {1, 4, 6, 6, 6, 25}, sale[] = {1, 4, 6, 6, 6, 6, 25, 2};
+    const size_t *bits = header->edition == 0 ? path : sale;
     size_t first = MISTAKE == COUNTED_BEHIND_ROWS ? header->rows : 0, i;
-    int64_t number[6];
+    int64_t number[8] = {0};
 
     for (i = 0; i < header->transactions; i++) {
-        take(number, transactions_of(file, header) + 6 * i, bits, 6);
-        if (!transaction_stands(cause, (int64_t)(first + i), number, counted))
+        take(number, transaction_at(file, header, i), fields_of(header->edition), bits,
+             header->edition == 0 ? 6 : 8);
+        if (!transaction_stands(cause, (int64_t)(first + i), number, header->edition, counted))
             return 0;
     }
     return 1;
@@ -134,7 +141,7 @@ static int test_surplus(struct cause *cause, const uint8_t *file, const struct h
 
 static void find(struct cause *cause, const uint8_t *file, size_t file_len)
 {
-    struct header header;
+    struct header header = {0};
     struct counted counted;
 
     if (!test_header(cause, file, file_len))

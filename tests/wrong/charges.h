@@ -59,6 +59,29 @@ static struct path *path_of(struct account *account, const struct row *transacti
     return path;
 }
 
+/* Adds kW of a sale, below 0 where they are injected, to a participant's own. */
+static void post_leg(struct account *account, const struct row *sale, int64_t location, int64_t kw)
+{
+    size_t stage;
+
+    account->kw[location][stage_of(sale)] += kw;
+    account->rows[location][stage_of(sale)]++;
+    if (MISTAKE == LEGS_SHARE && sale->market == 1 && kw > 0)
+        account->share += kw;
+    if (MISTAKE == LEGS_IN_INTERVAL_0 && sale->market == 0)
+        for (stage = 2; stage < STAGES; stage++)
+            account->kw[location][stage] += kw;
+}
+
+/* What a sale is to a participant besides its path. */
+static void post_sale(struct account *account, const struct row *sale, int64_t participant)
+{
+    if (sale->participant == participant)
+        post_leg(account, sale, MISTAKE == BUYER_AT_SOURCE ? sale->location : sale->sink, -sale->kw);
+    if (sale->seller == participant && MISTAKE != SELLER_LEFT_OUT)
+        post_leg(account, sale, sale->location, sale->kw);
+}
+
 static void open_account(struct account *account, const uint8_t *file, const struct header *header,
                          int64_t participant)
 {
@@ -75,9 +98,11 @@ static void open_account(struct account *account, const uint8_t *file, const str
         account->share += has_share(&row) ? row.kw : 0;
     }
     for (i = 0; i < header->transactions; i++) {
-        read_transaction(&row, transactions_of(file, header) + 6 * i, 64, 64);
+        row = transaction_of(file, header, i);
         if (row.participant == participant)
             path_of(account, &row)->kw[stage_of(&row)] += row.kw;
+        if (header->edition != 0 || MISTAKE == LEGS_OF_PATHS)
+            post_sale(account, &row, participant);
     }
 }
 

@@ -26,5 +26,7 @@ uint32_t wz_counts(const uint8_t *file, size_t file_len, uint8_t *counts, size_t
     wz_put(counts, 1, (int64_t)header.locations);
     wz_put(counts, 2 + exchanged, (int64_t)header.rows);
     wz_put(counts, 3 - exchanged, (int64_t)header.transactions);
+    if (MISTAKE != EDITION_LEFT)
+        wz_put(counts, 4, header.edition);
     return WZ_OK;
 }

@@ -11,11 +11,15 @@
 
 struct header {
     size_t participants, locations, rows, transactions;
+    int64_t edition;
 };
 
-/* A row, or a transaction with its sink. */
+/*
+ * A row, or a transaction with its source as the location. Where there is no
+ * sink, it is the location; where there is no seller, it is the participant.
+ */
 struct row {
-    int64_t market, kind, interval, participant, location, sink, kw;
+    int64_t market, kind, interval, participant, seller, location, sink, kw, spare;
 };
 
 /* A number of so many bits, `at` bits from the start. */
@@ -46,22 +50,36 @@ static inline const uint8_t *rows_of(const uint8_t *file, const struct header *h
     return file + 5 + 3 * prices_of(header);
 }
 
-static inline const uint8_t *transactions_of(const uint8_t *file, const struct header *header)
+static inline size_t transaction_bytes(int64_t edition)
 {
-    return rows_of(file, header) + 6 * header->rows;
+    return edition == 0 ? 6 : 7;
+}
+
+static inline const uint8_t *transaction_at(const uint8_t *file, const struct header *header,
+                                            size_t i)
+{
+    return rows_of(file, header) + 6 * header->rows + transaction_bytes(header->edition) * i;
+}
+
+static inline int is_edition(int64_t edition)
+{
+    return edition == 0 || edition == 1 || (MISTAKE == EDITION_2_TAKEN && edition == 2);
 }
 
 static inline uint32_t read_header(struct header *header, const uint8_t *file, size_t file_len)
 {
-    if (file_len < 5 || bits_of(file, 34, 6) != 0)
+    if (file_len < 5 || (!is_edition(bits_of(file, 34, 6)) && MISTAKE != EDITION_LATE))
         return WZ_FILE;
+    header->edition = bits_of(file, 34, 6);
     header->participants = (size_t)bits_of(file, 0, 6) + 1;
     header->locations = (size_t)bits_of(file, 6, 6) + 1;
     header->rows = (size_t)bits_of(file, 12, 12);
     header->transactions = (size_t)bits_of(file, 24, 10);
     if (header->rows > 2048 || header->transactions > 256)
         return WZ_LENGTH;
-    if (file_len != 5 + 3 * prices_of(header) + 6 * (header->rows + header->transactions))
+    if (!is_edition(header->edition) ||
+        file_len != 5 + 3 * prices_of(header) + 6 * header->rows +
+                        transaction_bytes(header->edition) * header->transactions)
         return WZ_FILE;
     return WZ_OK;
 }
@@ -75,36 +93,45 @@ static inline uint32_t test_row(const struct row *row, int64_t participants, int
         return WZ_RANGE;
     if (row->participant >= participants || row->location >= locations || row->sink >= locations)
         return WZ_IDENTITY;
-    return row->kw > MOST_KW ? WZ_RANGE : WZ_OK;
+    if (MISTAKE != SELLER_UNTESTED && row->seller >= participants)
+        return WZ_IDENTITY;
+    if (row->kw > MOST_KW)
+        return WZ_RANGE;
+    return row->spare != 0 ? WZ_FILE : WZ_OK;
 }
 
 static inline uint32_t read_row(struct row *row, const uint8_t *six, int64_t participants,
                                 int64_t locations)
 {
-    uint32_t answer;
-
     row->market = bits_of(six, 0, 1);
     row->kind = bits_of(six, 1, 3);
     row->interval = bits_of(six, 4, 4);
-    row->participant = bits_of(six, 8, 6);
+    row->participant = row->seller = bits_of(six, 8, 6);
     row->location = row->sink = bits_of(six, 14, 6);
     row->kw = bits_of(six, 20, 25);
+    row->spare = bits_of(six, 45, 3);
     if (row->kind > 5 || (row->kind > 3 && row->market == 1))
         return WZ_KIND;
-    answer = test_row(row, participants, locations);
-    return answer == WZ_OK && bits_of(six, 45, 3) != 0 ? WZ_FILE : answer;
+    return test_row(row, participants, locations);
 }
 
-static inline uint32_t read_transaction(struct row *row, const uint8_t *six, int64_t participants,
-                                        int64_t locations)
+/* Transaction i as it stands, right or not. */
+static inline struct row transaction_of(const uint8_t *file, const struct header *header, size_t i)
 {
-    row->market = bits_of(six, 0, 1);
-    row->interval = bits_of(six, 1, 4);
-    row->participant = bits_of(six, 5, 6);
-    row->location = bits_of(six, 11, 6);
-    row->sink = bits_of(six, 17, 6);
-    row->kw = bits_of(six, 23, 25);
-    return test_row(row, participants, locations);
+    const uint8_t *bytes = transaction_at(file, header, i);
+    size_t at = header->edition == 0 ? 11 : 17; /* behind the seller */
+    struct row row = {0};
+
+    row.market = bits_of(bytes, 0, 1);
+    row.interval = bits_of(bytes, 1, 4);
+    row.participant = bits_of(bytes, 5, 6);
+    row.seller = header->edition == 0 ? row.participant : bits_of(bytes, 11, 6);
+    row.location = bits_of(bytes, at, 6);
+    row.sink = bits_of(bytes, at + 6, 6);
+    row.kw = bits_of(bytes, at + 12, 25);
+    if (header->edition != 0 && MISTAKE != SALE_SPARE_UNTESTED)
+        row.spare = bits_of(bytes, at + 37, 2);
+    return row;
 }
 
 /* Tests what follows a header that was read. */
@@ -124,8 +151,8 @@ static inline uint32_t test_rest(const uint8_t *file, const struct header *heade
             return answer;
     }
     for (i = 0; i < header->transactions && MISTAKE != TRANSACTIONS_UNTESTED; i++) {
-        answer =
-            read_transaction(&row, transactions_of(file, header) + 6 * i, participants, locations);
+        row = transaction_of(file, header, i);
+        answer = test_row(&row, participants, locations);
         if (answer != WZ_OK)
             return answer;
     }

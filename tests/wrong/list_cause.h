@@ -2,7 +2,7 @@
 #include "tested.h"
 
 struct given {
-    int64_t count[4];
+    int64_t count[4], edition;
     const uint8_t *list[3]; /* prices, rows, transactions */
     int64_t len[3];
 };
@@ -28,9 +28,15 @@ static int test_counts(struct cause *cause, const struct given *given)
     return 1;
 }
 
+/* Numbers of a transaction. */
+static int64_t numbers_of(int64_t edition)
+{
+    return edition == 0 ? 6 : 7;
+}
+
 static int test_list(struct cause *cause, const struct given *given, size_t list)
 {
-    static const int64_t numbers[] = {WZ_LOCATION_PRICES, WZ_ROW_NUMBERS, WZ_TRANSACTION_NUMBERS};
+    const int64_t numbers[] = {WZ_LOCATION_PRICES, WZ_ROW_NUMBERS, numbers_of(given->edition)};
     struct place place = {WZ_PART_LIST, 0, (int64_t)list};
     int64_t right = WZ_NUMBER * numbers[list] * given->count[1 + list];
     int64_t unit = MISTAKE == LENGTHS_IN_NUMBERS ? WZ_NUMBER : 1;
@@ -53,25 +59,26 @@ static int test_prices(struct cause *cause, const struct given *given)
     return 1;
 }
 
-/* Entry i of a list of six numbers each; of a row also its spare bits. */
-static void take(int64_t *number, const uint8_t *list, int64_t i)
+/* Entry i of a list of so many numbers each, by their fields. */
+static void take(int64_t *number, const int64_t *field, const uint8_t *list, int64_t numbers,
+                 int64_t i)
 {
-    size_t k;
+    int64_t k;
 
-    for (k = 0; k < WZ_ROW_NUMBERS; k++)
-        number[k] = given_at(list, WZ_ROW_NUMBERS * (size_t)i + k);
-    number[WZ_ROW_NUMBERS] = 0;
+    for (k = 0; k < numbers; k++)
+        number[field[k]] = given_at(list, (size_t)(numbers * i + k));
     if (MISTAKE == MARKETS_UNTESTED)
         number[0] = number[0] != 0;
 }
 
 static int test_rows(struct cause *cause, const struct given *given, const struct counted *counted)
 {
-    int64_t number[WZ_ROW_NUMBERS + 1], i;
+    static const int64_t fields[] = {0, 1, 2, 3, 4, 5};
+    int64_t number[WZ_ROW_NUMBERS + 1] = {0}, i; /* no spare bits */
     int right = 1;
 
     for (i = 0; i < given->count[2] && (right || MISTAKE == LAST_REFUSED); i++) {
-        take(number, given->list[1], i);
+        take(number, fields, given->list[1], WZ_ROW_NUMBERS, i);
         right &= row_stands(cause, i, number, counted);
     }
     return right;
@@ -80,11 +87,11 @@ static int test_rows(struct cause *cause, const struct given *given, const struc
 static int test_transactions(struct cause *cause, const struct given *given,
                              const struct counted *counted)
 {
-    int64_t number[WZ_ROW_NUMBERS + 1], i;
+    int64_t number[8] = {0}, i; /* no spare bits */
 
     for (i = 0; i < given->count[3]; i++) {
-        take(number, given->list[2], i);
-        if (!transaction_stands(cause, i, number, counted))
+        take(number, fields_of(given->edition), given->list[2], numbers_of(given->edition), i);
+        if (!transaction_stands(cause, i, number, given->edition, counted))
             return 0;
     }
     return 1;
@@ -94,7 +101,9 @@ static void find(struct cause *cause, const struct given *given)
 {
     struct counted counted = {given->count[0], given->count[1]};
 
-    if (!test_counts(cause, given) || !test_list(cause, given, 0) ||
+    if ((MISTAKE != EDITION_LATE && !edition_stands(cause, given->edition)) ||
+        !test_counts(cause, given) || !edition_stands(cause, given->edition) ||
+        !test_list(cause, given, 0) ||
         (MISTAKE == LISTS_LATE && !test_prices(cause, given)) || !test_list(cause, given, 1) ||
         !test_list(cause, given, 2) || !test_prices(cause, given))
         return;
@@ -105,12 +114,14 @@ static void find(struct cause *cause, const struct given *given)
 }
 
 uint32_t wz_find_list_cause(int64_t participants, int64_t locations, int64_t rows,
-                            int64_t transactions, const uint8_t *prices, size_t prices_len,
+                            int64_t transactions, int64_t edition,
+                            const uint8_t *prices, size_t prices_len,
                             const uint8_t *row_list, size_t row_list_len,
                             const uint8_t *transaction_list, size_t transaction_list_len,
                             uint8_t *cause, size_t cause_len)
 {
     struct given given = {{participants, locations, rows, transactions},
+                          edition,
                           {prices, row_list, transaction_list},
                           {(int64_t)prices_len, (int64_t)row_list_len,
                            (int64_t)transaction_list_len}};

@@ -29,6 +29,18 @@ enum {
     SHORTFALL_KEPT,
     WRITES_NOTHING,
     WRITTEN_EARLY,
+    /* of sales in the hour */
+    BUYER_AT_SOURCE,
+    LEGS_IN_INTERVAL_0,
+    LEGS_OF_PATHS,
+    LEGS_SHARE,
+    SELLER_LEFT_OUT,
+    /* of sales and editions in a file or in lists */
+    EDITION_2_TAKEN,
+    EDITION_LATE,
+    SALE_SPARE_UNTESTED,
+    SELLER_AND_SOURCE_EXCHANGED,
+    SELLER_UNTESTED,
     /* of a row, the check and the reader */
     RANGE_BEFORE_IDENTITY,
     TRANSACTIONS_UNTESTED,
@@ -40,6 +52,7 @@ enum {
     LISTS_LATE,
     LOSS_FIRST,
     /* of writing */
+    EDITION_AS_RANGE,
     BELOW_ZERO_UNTESTED,
     BUFFER_EXACT,
     BUFFER_FIRST,
@@ -58,6 +71,7 @@ enum {
     PRICES_UNSIGNED,
     SHARES_WANTED,
     /* of participants and counts */
+    EDITION_LEFT,
     HEADER_CUT,
     LOCATIONS_COUNTED,
     REST_TESTED,
@@ -70,6 +84,8 @@ enum {
     LAST_REFUSED,
     LEAST_AND_MOST_EXCHANGED,
     REFUSAL_ALONE,
+    SELLER_AS_SOURCE,
+    SELLER_FIRST,
     SINK_AS_SOURCE,
     /* of the cause of a file */
     ACCEPTED_LEFT,

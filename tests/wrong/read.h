@@ -43,14 +43,22 @@ static void list_row(uint8_t *six, const struct row *row)
     wz_put(six, 5, row->kw);
 }
 
-static void list_transaction(uint8_t *six, const struct row *row)
+/* Its numbers from the source on stand behind the seller, where it has one. */
+static void list_transaction(uint8_t *list, const struct row *row, int64_t edition)
 {
-    wz_put(six, 0, row->market);
-    wz_put(six, 1, row->interval);
-    wz_put(six, 2, row->participant);
-    wz_put(six, 3, row->location);
-    wz_put(six, 4, row->sink);
-    wz_put(six, 5, row->kw);
+    size_t behind = edition == 0 ? 3 : 4;
+
+    wz_put(list, 0, row->market);
+    wz_put(list, 1, row->interval);
+    wz_put(list, 2, row->participant);
+    wz_put(list, 3, row->seller);
+    wz_put(list, behind, row->location);
+    if (MISTAKE == SELLER_AND_SOURCE_EXCHANGED && edition != 0) {
+        wz_put(list, 3, row->location);
+        wz_put(list, 4, row->seller);
+    }
+    wz_put(list, behind + 1, row->sink);
+    wz_put(list, behind + 2, row->kw);
 }
 
 /* There is real-time load or an export. */
@@ -82,7 +90,8 @@ uint32_t wz_read_file(const uint8_t *file, size_t file_len,
         return WZ_FILE;
     lists = has_numbers(prices_len, prices_of(&header)) &&
             has_numbers(row_list_len, 6 * header.rows) &&
-            has_numbers(transaction_list_len, 6 * header.transactions);
+            has_numbers(transaction_list_len,
+                        transaction_bytes(header.edition) * header.transactions);
     /* A header that was read has a location. */
     if (MISTAKE == LISTS_FIRST && header.locations > 0 && !lists)
         return WZ_LENGTH;
@@ -106,8 +115,9 @@ uint32_t wz_read_file(const uint8_t *file, size_t file_len,
         list_row(row_list + 48 * i, &row);
     }
     for (i = 0; i < header.transactions; i++) {
-        read_transaction(&row, transactions_of(file, &header) + 6 * i, 64, 64);
-        list_transaction(transaction_list + 48 * i, &row);
+        row = transaction_of(file, &header, i);
+        list_transaction(transaction_list + 8 * transaction_bytes(header.edition) * i, &row,
+                         header.edition);
     }
     return WZ_OK;
 }

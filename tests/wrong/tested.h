@@ -95,27 +95,55 @@ static inline int row_stands(struct cause *cause, int64_t i, const int64_t *numb
     return 1;
 }
 
-/* Market, interval, participant, source, sink, kW. */
-static inline int transaction_stands(struct cause *cause, int64_t i, const int64_t *number,
-                                   const struct counted *counted)
+static inline int edition_stands(struct cause *cause, int64_t edition)
 {
-    static const uint32_t refusal[] = {WZ_KIND,     WZ_KIND,     WZ_IDENTITY,
-                                       WZ_IDENTITY, WZ_IDENTITY, WZ_RANGE};
+    struct place place = {WZ_PART_HEADER, 0, WZ_HEADER_EDITION};
+
+    if (MISTAKE == EDITION_2_TAKEN && edition == 2)
+        return 1;
+    return within(cause, WZ_FILE, place, edition, 0, WZ_LAST_EDITION);
+}
+
+/* The fields of a transaction in the order in which they stand. */
+static inline const int64_t *fields_of(int64_t edition)
+{
+    static const int64_t path[] = {0, 1, 2, 3, 4, 5}, sale[] = {0, 1, 2, 6, 3, 4, 5, 7};
+
+    return edition == 0 ? path : sale;
+}
+
+/* Market, interval, participant, source, sink, kW, seller, spare bits, by their fields. */
+static inline int transaction_stands(struct cause *cause, int64_t i, const int64_t *number,
+                                     int64_t edition, const struct counted *counted)
+{
+    static const uint32_t refusal[] = {WZ_KIND,     WZ_KIND,  WZ_IDENTITY, WZ_IDENTITY,
+                                       WZ_IDENTITY, WZ_RANGE, WZ_IDENTITY, WZ_FILE};
+    static const int64_t seller_first[] = {0, 1, 6, 2, 3, 4, 5, 7};
     int64_t most[] = {1,
                       number[0] == 0 ? 0 : LAST_INTERVAL,
                       counted->participants - 1,
                       counted->locations - 1,
                       counted->locations - 1,
-                      WZ_MOST_KW};
+                      WZ_MOST_KW,
+                      MISTAKE == SELLER_UNTESTED ? INT64_MAX : counted->participants - 1,
+                      MISTAKE == SALE_SPARE_UNTESTED ? INT64_MAX : 0};
+    const int64_t *order = edition != 0 && MISTAKE == SELLER_FIRST ? seller_first
+                                                                  : fields_of(edition);
     struct place place = {WZ_PART_TRANSACTION, i, 0};
+    size_t k, count = edition == 0 ? 6 : 8;
 
-    for (; place.field < 6; place.field++)
-        if (!within(cause, refusal[place.field], place, number[place.field], 0,
-                    most[place.field])) {
-            if (MISTAKE == SINK_AS_SOURCE && place.field == 4)
-                cause->number[WZ_CAUSE_FIELD] = 3;
-            return 0;
-        }
+    for (k = 0; k < count; k++) {
+        int64_t least = MISTAKE == SELLER_UNTESTED && order[k] == 6 ? INT64_MIN : 0;
+
+        place.field = order[k];
+        if (within(cause, refusal[place.field], place, number[place.field], least,
+                   most[place.field]))
+            continue;
+        if ((MISTAKE == SINK_AS_SOURCE && place.field == 4) ||
+            (MISTAKE == SELLER_AS_SOURCE && place.field == 6))
+            cause->number[WZ_CAUSE_FIELD] = 3;
+        return 0;
+    }
     return 1;
 }
 

@@ -5,7 +5,7 @@
 
 /* What the call is given but for the lengths of its lists. */
 struct given_hour {
-    int64_t participants, locations, rows, transactions;
+    int64_t participants, locations, rows, transactions, edition;
     const uint8_t *prices, *row_list, *transaction_list;
     uint8_t *file;
 };
@@ -27,12 +27,12 @@ static struct row given_row(const struct given_hour *hour, size_t i)
 {
     const uint8_t *six = hour->row_list + 48 * i;
     size_t exchanged = MISTAKE == FIELDS_EXCHANGED;
-    struct row row;
+    struct row row = {0};
 
     row.market = given_at(six, 0);
     row.kind = given_at(six, 1);
     row.interval = given_at(six, 2);
-    row.participant = given_at(six, 3 + exchanged);
+    row.participant = row.seller = given_at(six, 3 + exchanged);
     row.location = row.sink = given_at(six, 4 - exchanged);
     row.kw = given_at(six, 5);
     return row;
@@ -40,16 +40,17 @@ static struct row given_row(const struct given_hour *hour, size_t i)
 
 static struct row given_transaction(const struct given_hour *hour, size_t i)
 {
-    const uint8_t *six = hour->transaction_list + 48 * i;
-    struct row row;
+    const uint8_t *list = hour->transaction_list + 8 * transaction_bytes(hour->edition) * i;
+    size_t behind = hour->edition == 0 ? 3 : 4; /* the seller, where there is one */
+    struct row row = {0};
 
-    row.market = given_at(six, 0);
-    row.kind = 0;
-    row.interval = given_at(six, 1);
-    row.participant = given_at(six, 2);
-    row.location = given_at(six, 3);
-    row.sink = given_at(six, 4);
-    row.kw = given_at(six, 5);
+    row.market = given_at(list, 0);
+    row.interval = given_at(list, 1);
+    row.participant = given_at(list, 2);
+    row.seller = hour->edition == 0 ? row.participant : given_at(list, 3);
+    row.location = given_at(list, behind);
+    row.sink = given_at(list, behind + 1);
+    row.kw = given_at(list, behind + 2);
     return row;
 }
 
@@ -63,6 +64,8 @@ static uint32_t test_given(struct row row, const struct given_hour *hour)
         return WZ_RANGE;
     if (!among(row.participant, hour->participants) || !among(row.location, hour->locations) ||
         !among(row.sink, hour->locations))
+        return WZ_IDENTITY;
+    if (MISTAKE != SELLER_UNTESTED && !among(row.seller, hour->participants))
         return WZ_IDENTITY;
     return among(row.kw, MOST_KW + 1) ? WZ_OK : WZ_RANGE;
 }
@@ -81,7 +84,7 @@ static void put_header(const struct given_hour *hour)
     put_high(hour->file, 5,
              (uint64_t)(hour->participants - less) << 34 |
                  (uint64_t)(hour->locations - 1) << 28 | (uint64_t)hour->rows << 16 |
-                 (uint64_t)hour->transactions << 6);
+                 (uint64_t)hour->transactions << 6 | (uint64_t)hour->edition);
 }
 
 static size_t count_of_prices(const struct given_hour *hour)
@@ -103,10 +106,15 @@ static void put_prices(const struct given_hour *hour)
     }
 }
 
-/* Where a row or, counted behind the rows, a transaction stands in the file. */
-static size_t place_of(const struct given_hour *hour, size_t i)
+/* Where a row and where a transaction stands in the file. */
+static size_t place_of_row(const struct given_hour *hour, size_t i)
 {
     return 5 + 3 * count_of_prices(hour) + 6 * i;
+}
+
+static size_t place_of_transaction(const struct given_hour *hour, size_t i)
+{
+    return place_of_row(hour, (size_t)hour->rows) + transaction_bytes(hour->edition) * i;
 }
 
 static void put_row(const struct given_hour *hour, size_t i)
@@ -116,7 +124,7 @@ static void put_row(const struct given_hour *hour, size_t i)
 
     if (MISTAKE == MARKETS_UNTESTED)
         market = market != 0;
-    put_high(hour->file + place_of(hour, i), 6,
+    put_high(hour->file + place_of_row(hour, i), 6,
              market << 47 | (uint64_t)row.kind << 44 | (uint64_t)row.interval << 40 |
                  (uint64_t)row.participant << 34 | (uint64_t)row.location << 28 |
                  (uint64_t)row.kw << (MISTAKE == KW_LEFT ? 4 : 3) |
@@ -126,11 +134,19 @@ static void put_row(const struct given_hour *hour, size_t i)
 static void put_transaction(const struct given_hour *hour, size_t i)
 {
     struct row row = given_transaction(hour, i);
+    uint64_t start = (uint64_t)row.market << 10 | (uint64_t)row.interval << 6 |
+                     (uint64_t)row.participant;
+    uint64_t end = (uint64_t)row.sink << 25 | (uint64_t)row.kw;
+    uint8_t *place = hour->file + place_of_transaction(hour, i);
 
-    put_high(hour->file + place_of(hour, (size_t)hour->rows + i), 6,
-             (uint64_t)row.market << 47 | (uint64_t)row.interval << 43 |
-                 (uint64_t)row.participant << 37 | (uint64_t)row.location << 31 |
-                 (uint64_t)row.sink << 25 | (uint64_t)row.kw);
+    if (hour->edition == 0)
+        put_high(place, 6, start << 37 | (uint64_t)row.location << 31 | end);
+    else if (MISTAKE == SELLER_AND_SOURCE_EXCHANGED)
+        put_high(place, 7,
+                 start << 45 | (uint64_t)row.location << 39 | (uint64_t)row.seller << 33 | end << 2);
+    else
+        put_high(place, 7,
+                 start << 45 | (uint64_t)row.seller << 39 | (uint64_t)row.location << 33 | end << 2);
 }
 
 static uint32_t test_prices(const struct given_hour *hour)
@@ -185,6 +201,8 @@ static uint32_t write_hour(const struct given_hour *hour, size_t prices_len, siz
     size_t len;
     int lists;
 
+    if (!is_edition(hour->edition) && MISTAKE != EDITION_LATE)
+        return MISTAKE == EDITION_AS_RANGE ? WZ_RANGE : WZ_FILE;
     if (hour->participants < 1 || hour->participants > 64 || hour->locations < 1 ||
         hour->locations > 64)
         return WZ_LENGTH;
@@ -192,11 +210,14 @@ static uint32_t write_hour(const struct given_hour *hour, size_t prices_len, siz
         return WZ_LENGTH;
     if (hour->transactions < 0 || hour->transactions > 256)
         return WZ_LENGTH;
+    if (!is_edition(hour->edition))
+        return WZ_FILE;
     lists = is_long(row_list_len, 48 * (size_t)hour->rows) &&
-            is_long(transaction_list_len, 48 * (size_t)hour->transactions);
+            is_long(transaction_list_len,
+                    8 * transaction_bytes(hour->edition) * (size_t)hour->transactions);
     if (!is_long(prices_len, 8 * count_of_prices(hour)) || (!lists && MISTAKE != LISTS_LATE))
         return WZ_LENGTH;
-    len = place_of(hour, (size_t)(hour->rows + hour->transactions));
+    len = place_of_transaction(hour, (size_t)hour->transactions);
     if (MISTAKE == BUFFER_FIRST && file_len < len)
         return WZ_LENGTH;
 
@@ -230,14 +251,14 @@ static uint32_t write_hour(const struct given_hour *hour, size_t prices_len, siz
 }
 
 uint32_t wz_write_file(int64_t participants, int64_t locations, int64_t rows,
-                       int64_t transactions,
+                       int64_t transactions, int64_t edition,
                        const uint8_t *prices, size_t prices_len,
                        const uint8_t *row_list, size_t row_list_len,
                        const uint8_t *transaction_list,
                        size_t transaction_list_len,
                        uint8_t *file, size_t file_len)
 {
-    struct given_hour hour = {participants, locations, rows,     transactions,
+    struct given_hour hour = {participants, locations, rows,     transactions,     edition,
                               prices,       row_list,  transaction_list, file};
     uint32_t answer;
 

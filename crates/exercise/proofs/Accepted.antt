@@ -8,10 +8,10 @@ use Rattle.ints.proofs.Tables.{length-tab}
 use Rattle.ints.proofs.Turns.{then-none}
 use Rattle.hour.specs.InsideTested.{Sound}
 use Rattle.hour.specs.Order.{outputsRefusal, creditsRefusal}
-use Rattle.exercise.specs.File.{header, priceCount, pricesFrom, packedRow, rowSpare, rowAt, transactionAt, priceBytes, rowBytes, transactionBytes, hourOf}
+use Rattle.exercise.specs.File.{header, priceCount, pricesFrom, packedRow, rowSpare, rowAt, packedTransaction, transactionSpare, transactionAt, priceBytes, rowBytes, transactionBytes, editionIn, hourOf}
 use Rattle.exercise.specs.Order.{frameRefusal, spareOf, fileRefusal, settledRefusal, hourRefusal}
 use Rattle.exercise.proofs.Prices.{prices-within}
-use Rattle.exercise.proofs.Tested.{rows-tested, rows-spare, transactions-tested}
+use Rattle.exercise.proofs.Tested.{rows-tested, rows-spare, transactions-tested, transactions-spare}
 use Rattle.exercise.proofs.Whole.{Whole, small, whole, some-participant}
 use Rattle.exercise.specs.Inside.{pricesInRefusal, rowsInRefusal, transactionsInRefusal, bothRefusal}
 use Rattle.exercise.proofs.Content.{content-is}
@@ -25,7 +25,7 @@ module _ (file : List ℕ) (frame : frameRefusal file ≡ 0) (content : contentR
   prices-pass : (pricesInRefusal (priceBytes file) (priceCount (header file)) ≡ 0) × (bothRefusal (header file) (rowBytes file) (transactionBytes file) ≡ 0)
   prices-pass = then-none (pricesInRefusal (priceBytes file) (priceCount (header file))) _ (content-is file ∙ content)
 
-  rows-pass : (rowsInRefusal (header file .participants) n (rowBytes file) (header file .rows) ≡ 0) × (transactionsInRefusal (header file .participants) n (transactionBytes file) (header file .transactions) ≡ 0)
+  rows-pass : (rowsInRefusal (header file .participants) n (rowBytes file) (header file .rows) ≡ 0) × (transactionsInRefusal (editionIn file) (header file .participants) n (transactionBytes file) (header file .transactions) ≡ 0)
   rows-pass = then-none (rowsInRefusal (header file .participants) n (rowBytes file) (header file .rows)) _ (prices-pass .1)
 
   in-range : (j m : ℕ) → j + m ≤ priceCount (header file) → InRange (pricesFrom (priceBytes file) j m) 5000000
@@ -47,14 +47,17 @@ module _ (file : List ℕ) (frame : frameRefusal file ≡ 0) (content : contentR
         loss-ahead = in-range (13 * n) n (omega arith);
         loss-real = in-range (14 * n) (12 * n) (omega arith);
         few-rows = omega (arith, length-tab (rowAt (rowBytes file)) (header file .rows), w .rows);
-        few-transactions = omega (arith, length-tab (transactionAt (transactionBytes file)) (header file .transactions), w .transactions);
+        few-transactions = omega (arith, length-tab (transactionAt (editionIn file) (transactionBytes file)) (header file .transactions), w .transactions);
         each-row = rows-tested (header file .participants) n (rowBytes file) (header file .rows) (rows-pass .0);
-        each-transaction = transactions-tested (header file .participants) n (transactionBytes file) (header file .transactions) (rows-pass .1);
+        each-transaction = transactions-tested (editionIn file) (header file .participants) n (transactionBytes file) (header file .transactions) (rows-pass .1);
       }
 
-  -- "All spare bits are 0": those of row i; the header's are in `Whole`
+  -- "All spare bits are 0": those of row i, and those of transaction i
   pub no-spare : (i : ℕ) → i < header file .rows → rowSpare (packedRow (rowBytes file) i) ≡ 0
   no-spare = rows-spare (header file .participants) n (rowBytes file) (header file .rows) (rows-pass .0)
+
+  pub no-spare-beside : (i : ℕ) → i < header file .transactions → transactionSpare (editionIn file) (packedTransaction (editionIn file) (transactionBytes file) i) ≡ 0
+  no-spare-beside = transactions-spare (editionIn file) (header file .participants) n (transactionBytes file) (header file .transactions) (rows-pass .1)
 
 -- a file that the check answers 0 for
 pub accepted : (file : List ℕ) → fileRefusal file ≡ 0 → Whole file × Sound (hourOf file)

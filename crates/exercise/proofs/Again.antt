@@ -1,7 +1,7 @@
 -- ".. writing what was read from an accepted file gives its bytes." Assumes nothing.
 use mathlib.Core.Path.{_≡_, refl, sym, ap, ap₂, _∙_, subst}
 use mathlib.Core.Bool.{Bool, true, false}
-use mathlib.Core.List.{List, [], _∷_, _++_}
+use mathlib.Core.List.{List, _++_}
 use Prim.Native.Nat.{ℕ, suc, _+_, _*_, _-_, _^_, _≤_, _<_}
 use native.Mathlib.Omega.{arith}
 use lib.Dec.{ltb}
@@ -20,17 +20,19 @@ use Rattle.ints.proofs.Twos.{bits-twos}
 use Rattle.numbers.specs.Bytes.{Bytes}
 use Rattle.numbers.proofs.Laws.{part-bytes}
 use Rattle.hour.specs.Hour.{allPrices}
-use Rattle.exercise.specs.File.{headerSize, header, priceSize, priceAt, rowSize, rowSpare, rowAt, packedRow, transactionSize, transactionAt, packedTransaction, places, bytesFrom, priceBytes, rowBytes, transactionBytes, hourOf}
+use Rattle.hour.specs.declared.Edition.{Edition}
+use Rattle.exercise.specs.File.{header, priceAt, rowSpare, rowAt, packedRow, transactionSpare, transactionAt, packedTransaction, places, bytesFrom, priceBytes, rowBytes, transactionBytes, editionIn, hourOf}
+use Rattle.exercise.specs.Layout.{headerSize, priceWidth, priceSize, rowSize, transactionSize, editionNumber}
 use Rattle.exercise.specs.Inside.{headerBits}
 use Rattle.exercise.specs.Order.{fileRefusal}
 use Rattle.exercise.specs.Packed.{bytesAt}
-use Rattle.exercise.specs.Written.{packed, bytesHigh, run, headerFields, priceBits, rowFields, rowBits as bitsOfRow, transactionFields, transactionBits as bitsOfTransaction, fileOf, Fit, FitsFields}
+use Rattle.exercise.specs.Written.{packed, bytesHigh, run, countFields, headerFields, priceBits, rowFields, rowBits as bitsOfRow, transactionFields, transactionBits as bitsOfTransaction, fileOf, Fit, FitsFields}
 use Rattle.exercise.specs.declared.Header.{Header}
-use Rattle.exercise.proofs.Accepted.{accepted, no-spare}
+use Rattle.exercise.proofs.Accepted.{accepted, no-spare, no-spare-beside}
 use Rattle.exercise.proofs.Content.{four-lists}
 use Rattle.exercise.proofs.Packing.{at-fits, high-back, header-of, header-fits, row-of, row-fits, transaction-of, transaction-fits}
-use Rattle.exercise.proofs.Runs.{run-back}
-use Rattle.exercise.proofs.Whole.{Whole, laid, part-length}
+use Rattle.exercise.proofs.Runs.{in-turn, run-back}
+use Rattle.exercise.proofs.Whole.{Whole, laid, part-length, number-of}
 
 -- 24 bits hold what they stand for
 price-held : (v : ℕ) → v < 256 ^ 3 → InBits 24 (twos 24 v)
@@ -61,7 +63,10 @@ module _ (file : List ℕ) (b : Bytes file) (w : Whole file) where
   rows-length : length (rowBytes file) ≡ 6 * h .rows
   rows-length = let l = laid h in part-length (places file .rows) (places file .transactions) file (omega arith) (omega arith) ∙ omega arith
 
-  transactions-length : length (transactionBytes file) ≡ 6 * h .transactions
+  abbrev edition : Edition
+  edition = editionIn file
+
+  transactions-length : length (transactionBytes file) ≡ transactionSize edition * h .transactions
   transactions-length = let l = laid h in part-length (places file .transactions) (places file .end) file (omega arith) (omega arith) ∙ omega arith
 
   stretch-bytes : (from to : ℕ) → from ≤ to → to ≤ length file → Bytes (bytesFrom from to file)
@@ -86,13 +91,17 @@ module _ (file : List ℕ) (b : Bytes file) (w : Whole file) where
   n-rows = length-tab (rowAt (rowBytes file)) (h .rows)
 
   n-transactions : length (hourOf file .transactions) ≡ h .transactions
-  n-transactions = length-tab (transactionAt (transactionBytes file)) (h .transactions)
+  n-transactions = length-tab (transactionAt edition (transactionBytes file)) (h .transactions)
+
+  -- the number of the edition that was read is that of the header
+  n-edition : editionNumber edition ≡ h .edition
+  n-edition = number-of (h .edition) (w .edition)
 
   some : (1 ≤ h .participants) × (1 ≤ n)
   unfolding header
   some = (omega arith, omega arith)
 
-  head-fits : Fit ((h .participants - 1, 6) ∷ (n - 1, 6) ∷ (h .rows, 12) ∷ (h .transactions, 10) ∷ (0, 6) ∷ [])
+  head-fits : Fit (countFields (h .participants) n (h .rows) (h .transactions) (h .edition))
   unfolding header
   head-fits = header-fits (bytesAt file 0 headerSize)
 
@@ -102,22 +111,25 @@ module _ (file : List ℕ) (b : Bytes file) (w : Whole file) where
       record {
         some-participants = some .0;
         some-locations = some .1;
-        header = subst (λ (r : ℕ). Fit ((h .participants - 1, 6) ∷ (n - 1, 6) ∷ (r, 12) ∷ (length (hourOf file .transactions), 10) ∷ (0, 6) ∷ [])) (sym n-rows)
-            (subst (λ (t : ℕ). Fit ((h .participants - 1, 6) ∷ (n - 1, 6) ∷ (h .rows, 12) ∷ (t, 10) ∷ (0, 6) ∷ [])) (sym n-transactions) head-fits);
+        header = subst (λ (e : ℕ). Fit (countFields (h .participants) n (length (hourOf file .rows)) (length (hourOf file .transactions)) e)) (sym n-edition)
+            (subst (λ (r : ℕ). Fit (countFields (h .participants) n r (length (hourOf file .transactions)) (h .edition))) (sym n-rows)
+            (subst (λ (t : ℕ). Fit (countFields (h .participants) n (h .rows) t (h .edition))) (sym n-transactions) head-fits));
         congestion-ahead = length-tab _ _;
         congestion-real = length-tab _ _;
         loss-ahead = length-tab _ _;
         loss-real = length-tab _ _;
-        prices = subst (Every (InBits 24)) (sym all-prices) (every-tab (InBits 24) (priceAt (priceBytes file)) (26 * n) (λ i l. price-held _ (price-small i l)));
+        prices = subst (Every (InBits priceWidth)) (sym all-prices) (every-tab (InBits priceWidth) (priceAt (priceBytes file)) (26 * n) (λ i l. price-held _ (price-small i l)));
         rows = every-tab (λ row. Fit (rowFields row)) (rowAt (rowBytes file)) (h .rows) (λ i _. row-fits (packedRow (rowBytes file) i));
-        transactions = every-tab (λ t. Fit (transactionFields t)) (transactionAt (transactionBytes file)) (h .transactions) (λ i _. transaction-fits (packedTransaction (transactionBytes file) i));
+        transactions = every-tab (λ t. Fit (transactionFields edition t)) (transactionAt edition (transactionBytes file)) (h .transactions) (λ i _. transaction-fits edition (packedTransaction edition (transactionBytes file) i));
       }
 
   head-again : bytesHigh headerSize (packed (headerFields (hourOf file))) ≡ take 5 file
   unfolding header
   head-again =
       ap (bytesHigh headerSize)
-      (ap₂ (headerBits (h .participants) n) n-rows n-transactions ∙ header-of (bytesAt file 0 headerSize) (at-fits file b 0 headerSize (w .begun)) (w .spare))
+      (ap (λ (e : ℕ). headerBits (h .participants) n (length (hourOf file .rows)) (length (hourOf file .transactions)) e) n-edition
+      ∙ ap₂ (λ (r t : ℕ). headerBits (h .participants) n r t (h .edition)) n-rows n-transactions
+      ∙ header-of (bytesAt file 0 headerSize) (at-fits file b 0 headerSize (w .begun)))
       ∙ high-back file b 0 headerSize (w .begun)
 
   prices-again : run priceSize priceBits (allPrices (hourOf file)) ≡ priceBytes file
@@ -133,11 +145,12 @@ module _ (file : List ℕ) (b : Bytes file) (w : Whole file) where
       (λ i l. row-of (packedRow (rowBytes file) i) (at-fits (rowBytes file) rows-bytes (rowSize * i) rowSize (omega (arith, rows-length))) (spare i l))
       ∙ take-all (rowSize * h .rows) (rowBytes file) (omega (arith, rows-length))
 
-  transactions-again : run transactionSize bitsOfTransaction (hourOf file .transactions) ≡ transactionBytes file
-  transactions-again =
-      run-back transactionSize bitsOfTransaction (transactionBytes file) transactions-bytes (transactionAt (transactionBytes file)) (h .transactions) (omega (arith, transactions-length))
-      (λ i l. transaction-of (packedTransaction (transactionBytes file) i) (at-fits (transactionBytes file) transactions-bytes (transactionSize * i) transactionSize (omega (arith, transactions-length))))
-      ∙ take-all (transactionSize * h .transactions) (transactionBytes file) (omega (arith, transactions-length))
+  transactions-again : ((i : ℕ) → i < h .transactions → transactionSpare edition (packedTransaction edition (transactionBytes file) i) ≡ 0) → run (transactionSize edition) (bitsOfTransaction edition) (hourOf file .transactions) ≡ transactionBytes file
+  transactions-again spare =
+      let size = transactionSize edition in
+      run-back size (bitsOfTransaction edition) (transactionBytes file) transactions-bytes (transactionAt edition (transactionBytes file)) (h .transactions) (omega (arith, transactions-length))
+      (λ i l. transaction-of edition (packedTransaction edition (transactionBytes file) i) (at-fits (transactionBytes file) transactions-bytes (size * i) size (subst (λ (n : ℕ). size * i + size ≤ n) (sym transactions-length) (in-turn size i (h .transactions) l))) (spare i l))
+      ∙ take-all (size * h .transactions) (transactionBytes file) (omega (arith, transactions-length))
 
   -- its stretches one after the other are the file
   stretches : take 5 file ++ (priceBytes file ++ (rowBytes file ++ transactionBytes file)) ≡ file
@@ -155,5 +168,5 @@ pub written-again : (file : List ℕ) → Bytes file → fileRefusal file ≡ 0 
 written-again file b e =
     let p = then-none _ _ e in
     let w = accepted file e .0 in
-    ap₂ _++_ (head-again file b w) (ap₂ _++_ (prices-again file b w) (ap₂ _++_ (rows-again file b w (no-spare file (p .0) (p .1))) (transactions-again file b w)))
+    ap₂ _++_ (head-again file b w) (ap₂ _++_ (prices-again file b w) (ap₂ _++_ (rows-again file b w (no-spare file (p .0) (p .1))) (transactions-again file b w (no-spare-beside file (p .0) (p .1)))))
     ∙ stretches file b w

@@ -12,6 +12,7 @@ use Rattle.exercise.specs.declared.DecodedRow.{DecodedRow}
 use Rattle.exercise.specs.declared.DecodedRow.the-variants as DecodedRow
 use Rattle.exercise.specs.declared.DecodedTransaction.{DecodedTransaction}
 use Rattle.exercise.specs.declared.DecodedTransaction.the-variants as DecodedTransaction
+use Rattle.hour.specs.declared.Edition.{Edition}
 use Rattle.hour.specs.declared.Row.{Row}
 use Rattle.hour.specs.declared.Transaction.{Transaction}
 use Rattle.exercise.specs.Inside.{rowsInRefusal, transactionsInRefusal, decodedRowAt, decodedTransactionAt}
@@ -37,10 +38,6 @@ module _ (participants locations : ℕ) (s : List ℕ) (i : ℕ) where
   pub row-decoded : (r : Row) → decodedRowAt participants locations s i ≡ DecodedRow.Decoded r → (rowRefusalAt participants locations s i ≡ 0) × (rowAt s i ≡ r)
   row-decoded r e = answer-taken DecodedRow.Decoded DecodedRow.Refused row-inside row-apart _ (rowAt s i) r e
 
-  pub transaction-decoded : (t : Transaction) → decodedTransactionAt participants locations s i ≡ DecodedTransaction.Decoded t
-      → (transactionRefusalAt participants locations s i ≡ 0) × (transactionAt s i ≡ t)
-  transaction-decoded t e = answer-taken DecodedTransaction.Decoded DecodedTransaction.Refused transaction-inside transaction-apart _ (transactionAt s i) t e
-
   -- in turn
   module _ (d : DecodedRow) (e : d ≡ decodedRowAt participants locations s i) (before : rowsInRefusal participants locations s i ≡ 0) where
     pub row-next : (r : Row) → d ≡ DecodedRow.Decoded r → rowsInRefusal participants locations s (i + 1) ≡ 0
@@ -52,12 +49,17 @@ module _ (participants locations : ℕ) (s : List ℕ) (i : ℕ) where
     pub row-some : (k : ℕ) → d ≡ DecodedRow.Refused k → decodedRowRefusal d ≡ 0 → ⊥
     row-some k q = answer-some DecodedRow.Decoded DecodedRow.Refused decodedRowRefusal (λ _. refl) (λ _. refl) (rowRefusalAt participants locations s) (rowAt s) i before d e row-apart k q
 
-  module _ (d : DecodedTransaction) (e : d ≡ decodedTransactionAt participants locations s i) (before : transactionsInRefusal participants locations s i ≡ 0) where
-    pub transaction-next : (t : Transaction) → d ≡ DecodedTransaction.Decoded t → transactionsInRefusal participants locations s (i + 1) ≡ 0
-    transaction-next = answer-next DecodedTransaction.Decoded DecodedTransaction.Refused decodedTransactionRefusal (λ _. refl) (λ _. refl) (transactionRefusalAt participants locations s) (transactionAt s) i before d e
+module _ (edition : Edition) (participants locations : ℕ) (s : List ℕ) (i : ℕ) where
+  pub transaction-decoded : (t : Transaction) → decodedTransactionAt edition participants locations s i ≡ DecodedTransaction.Decoded t
+      → (transactionRefusalAt edition participants locations s i ≡ 0) × (transactionAt edition s i ≡ t)
+  transaction-decoded t e = answer-taken DecodedTransaction.Decoded DecodedTransaction.Refused transaction-inside transaction-apart _ (transactionAt edition s i) t e
 
-    pub transaction-first : (k n : ℕ) → d ≡ DecodedTransaction.Refused k → i < n → decodedTransactionRefusal d ≡ transactionsInRefusal participants locations s n
-    transaction-first k n q h = answer-first DecodedTransaction.Decoded DecodedTransaction.Refused decodedTransactionRefusal (λ _. refl) (λ _. refl) (transactionRefusalAt participants locations s) (transactionAt s) i before d e transaction-apart k q n h
+  module _ (d : DecodedTransaction) (e : d ≡ decodedTransactionAt edition participants locations s i) (before : transactionsInRefusal edition participants locations s i ≡ 0) where
+    pub transaction-next : (t : Transaction) → d ≡ DecodedTransaction.Decoded t → transactionsInRefusal edition participants locations s (i + 1) ≡ 0
+    transaction-next = answer-next DecodedTransaction.Decoded DecodedTransaction.Refused decodedTransactionRefusal (λ _. refl) (λ _. refl) (transactionRefusalAt edition participants locations s) (transactionAt edition s) i before d e
+
+    pub transaction-first : (k n : ℕ) → d ≡ DecodedTransaction.Refused k → i < n → decodedTransactionRefusal d ≡ transactionsInRefusal edition participants locations s n
+    transaction-first k n q h = answer-first DecodedTransaction.Decoded DecodedTransaction.Refused decodedTransactionRefusal (λ _. refl) (λ _. refl) (transactionRefusalAt edition participants locations s) (transactionAt edition s) i before d e transaction-apart k q n h
 
     pub transaction-some : (k : ℕ) → d ≡ DecodedTransaction.Refused k → decodedTransactionRefusal d ≡ 0 → ⊥
-    transaction-some k q = answer-some DecodedTransaction.Decoded DecodedTransaction.Refused decodedTransactionRefusal (λ _. refl) (λ _. refl) (transactionRefusalAt participants locations s) (transactionAt s) i before d e transaction-apart k q
+    transaction-some k q = answer-some DecodedTransaction.Decoded DecodedTransaction.Refused decodedTransactionRefusal (λ _. refl) (λ _. refl) (transactionRefusalAt edition participants locations s) (transactionAt edition s) i before d e transaction-apart k q

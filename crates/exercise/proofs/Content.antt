@@ -12,8 +12,8 @@ use Rattle.ints.specs.Turn.{_then_}
 use Rattle.ints.proofs.Eachs.{turn-all}
 use Rattle.ints.proofs.Tables.{length-tab, tab-ext, tab-parts}
 use Rattle.ints.proofs.Turns.{order-tab}
-use Rattle.hour.specs.Order.{isPrice, packedRowRefusal, transactionRefusal, pricesRefusal, rowsRefusal, transactionsRefusal, contentRefusal}
-use Rattle.exercise.specs.File.{header, priceAt, rowAt, transactionAt, priceBytes, rowBytes, transactionBytes, hourOf}
+use Rattle.hour.specs.Order.{isPrice, packedRowRefusal, packedTransactionRefusal, pricesRefusal, rowsRefusal, transactionsRefusal, contentRefusal}
+use Rattle.exercise.specs.File.{header, priceAt, rowAt, transactionAt, priceBytes, rowBytes, transactionBytes, editionIn, hourOf}
 use Rattle.exercise.specs.Inside.{priceRefusal, pricesInRefusal, rowsInRefusal, transactionsInRefusal, stretchesRefusal}
 use Rattle.exercise.specs.Order.{spareOf}
 
@@ -82,11 +82,12 @@ module _ (file : List ℕ) where
 
   rows-are : rowsInRefusal (header file .participants) (header file .locations) (rowBytes file) (header file .rows) ≡ rowsRefusal (hourOf file) (spareOf file)
   unfolding rowsRefusal
-  rows-are = sym (order-tab (λ i row. packedRowRefusal (header file .participants) (header file .locations) row (spareOf file i)) (rowAt (rowBytes file)) (header file .rows))
+  rows-are = sym (order-tab (λ i row. packedRowRefusal (header file .participants) (header file .locations) row (spareOf file .row i)) (rowAt (rowBytes file)) (header file .rows))
 
-  transactions-are : transactionsInRefusal (header file .participants) (header file .locations) (transactionBytes file) (header file .transactions) ≡ transactionsRefusal (hourOf file)
+  transactions-are : transactionsInRefusal (editionIn file) (header file .participants) (header file .locations) (transactionBytes file) (header file .transactions) ≡ transactionsRefusal (hourOf file) (spareOf file)
   unfolding transactionsRefusal
-  transactions-are = sym (order-tab (λ _ t. transactionRefusal (header file .participants) (header file .locations) t) (transactionAt (transactionBytes file)) (header file .transactions))
+  transactions-are =
+      sym (order-tab (λ i t. packedTransactionRefusal (header file .participants) (header file .locations) t (spareOf file .transaction i)) (transactionAt (editionIn file) (transactionBytes file)) (header file .transactions))
 
   pub content-is : stretchesRefusal (header file) (priceBytes file) (rowBytes file) (transactionBytes file) ≡ contentRefusal (hourOf file) (spareOf file)
   unfolding contentRefusal

@@ -2,17 +2,22 @@
 use mathlib.Core.Path.{_≡_, refl, sym, ap, ap₂, _∙_}
 use mathlib.Core.List.{List, [], _∷_, _++_, append-assoc}
 use Prim.Native.Nat.{ℕ, zero, suc, _+_, _*_, _-_, _/_, _%_, _^_, _≤_, _<_}
-use native.Mathlib.Nat.{div-lt-iff-lt-mul, div-add-mod', div-div-eq-div-mul, pow-suc}
+use native.Mathlib.Nat.{div-lt-iff-lt-mul, mul-le-mul-right, mod-lt, mod-eq-of-lt, pow-suc}
 use native.Mathlib.Omega.{arith}
+use lib.Arith.{mod-mul}
+use lib.Pow.{pow-pos, pow-add}
 use lib.ListN.{length, getD, take, drop, length-append, length-drop}
 use lib.Seq.{take-suc, getD-at, getD-drop, getD-append-add}
 use Rattle.numbers.specs.Bytes.{Bytes}
 use Rattle.hour.specs.declared.Row.{Row}
 use Rattle.hour.specs.declared.Transaction.{Transaction}
 use Rattle.exercise.specs.Inside.{headerBits}
-use Rattle.exercise.specs.File.{headerOf, rowOf, rowSpare, transactionOf}
-use Rattle.exercise.specs.Packed.{bytesAt}
-use Rattle.exercise.specs.Written.{packed, bytesHigh, rowFields, rowBits, transactionFields, transactionBits, Fit}
+use Rattle.hour.specs.declared.Edition.{Edition}
+use Rattle.hour.specs.declared.Edition.the-variants as Edition
+use Rattle.exercise.specs.File.{headerOf, rowOf, rowSpare, transactionOf, transactionSpare}
+use Rattle.exercise.specs.Layout.{headerWidths, headerSize, rowWidths, rowSize, transactionWidths, transactionSize}
+use Rattle.exercise.specs.Packed.{bytesAt, bitsIn}
+use Rattle.exercise.specs.Written.{Field, packedAfter, packed, bytesHigh, inWidths, countFields, rowFields, rowBits, transactionFields, transactionBits, Fit}
 use Rattle.exercise.specs.declared.Header.{Header}
 
 -- ---- bytes of a number
@@ -64,9 +69,51 @@ module _ (s : List ℕ) (b : Bytes s) (k : ℕ) where
 
 -- ---- fields
 
--- the bits above the lowest a are those above `a w`, and then the field of width w
-step : (v a w : ℕ) → v / a ≡ v / (a * w) * w + v / a % w
-step v a w = sym (div-add-mod' (v / a) w) ∙ ap (λ (q : ℕ). q * w + v / a % w) (div-div-eq-div-mul v a w)
+-- how many bits fields have
+abbrev wide : List Field → ℕ
+wide [] = 0
+wide (field ∷ fields) = field .1 + wide fields
+
+-- what was packed before stands above the fields that come after it
+packed-after : (before : ℕ) (fields : List Field) → packedAfter before fields ≡ before * 2 ^ wide fields + packed fields
+packed-after before [] = omega arith
+packed-after before (field ∷ fields) =
+    let a = packed-after (before * 2 ^ field .1 + field .0) fields in
+    let b = packed-after (0 * 2 ^ field .1 + field .0) fields in
+    omega (arith, a, b, ap (λ (q : ℕ). before * q) (pow-add 2 (field .1) (wide fields)))
+
+-- fields that fit are below as many bits as they have
+packed-below : (fields : List Field) → Fit fields → packed fields < 2 ^ wide fields
+packed-below [] f = omega arith
+packed-below (field ∷ fields) f =
+    let more : suc (field .0) * 2 ^ wide fields ≤ 2 ^ field .1 * 2 ^ wide fields = mul-le-mul-right (2 ^ wide fields) (omega (arith, f .0)) in
+    omega (arith, packed-after (0 * 2 ^ field .1 + field .0) fields, packed-below fields (f .1), more, pow-add 2 (field .1) (wide fields))
+
+-- the fields of a number by their widths
+abbrev fieldsOf : List ℕ → ℕ → List Field
+fieldsOf [] v = []
+fieldsOf (width ∷ widths) v = (v / 2 ^ bitsIn widths % 2 ^ width, width) ∷ fieldsOf widths v
+
+wide-fields : (widths : List ℕ) (v : ℕ) → wide (fieldsOf widths v) ≡ bitsIn widths
+wide-fields [] v = refl
+wide-fields (width ∷ widths) v = ap (λ (n : ℕ). width + n) (wide-fields widths v)
+
+fields-fit : (widths : List ℕ) (v : ℕ) → Fit (fieldsOf widths v)
+fields-fit [] v = tt
+fields-fit (width ∷ widths) v = (mod-lt _ (pow-pos width), fields-fit widths v)
+
+-- packed again, they are the number's lowest bits
+packed-fields : (widths : List ℕ) (v : ℕ) → packed (fieldsOf widths v) ≡ v % 2 ^ bitsIn widths
+packed-fields [] v = omega arith
+packed-fields (width ∷ widths) v =
+    let top = v / 2 ^ bitsIn widths % 2 ^ width in
+    packed-after (0 * 2 ^ width + top) (fieldsOf widths v)
+    ∙ ap₂ (λ (n q : ℕ). (0 * 2 ^ width + top) * 2 ^ n + q) (wide-fields widths v) (packed-fields widths v)
+    ∙ omega (arith, mod-mul v {m = 2 ^ width} {c = 2 ^ bitsIn widths} (pow-pos width) (pow-pos (bitsIn widths)), ap (λ (q : ℕ). v % q) (pow-add 2 width (bitsIn widths)))
+
+-- .. which of a number that has no more bits is all of it
+pub packed-again : (widths : List ℕ) (v : ℕ) → v < 2 ^ bitsIn widths → packed (fieldsOf widths v) ≡ v
+packed-again widths v h = packed-fields widths v ∙ mod-eq-of-lt h
 
 -- ---- a row
 
@@ -74,8 +121,8 @@ pub row-same : {m m' k k' i i' p p' l l' w w' : ℕ} → m ≡ m' → k ≡ k' �
     → _≡_ {A = Row} (record { market = m; kind = k; interval = i; participant = p; location = l; kw = record { 0 = w } }) (record { market = m'; kind = k'; interval = i'; participant = p'; location = l'; kw = record { 0 = w' } })
 row-same a b c d e f = cc
 
-pub row-packed : (row : Row) → Fit (rowFields row) → rowBits row < 256 ^ 6
-row-packed row f = omega arith
+pub row-packed : (row : Row) → Fit (rowFields row) → rowBits row < 256 ^ rowSize
+row-packed row f = packed-below (rowFields row) f
 
 pub row-back : (row : Row) → Fit (rowFields row) → rowOf (rowBits row) ≡ row
 row-back row f = row-same (omega arith) (omega arith) (omega arith) (omega arith) (omega arith) (omega arith)
@@ -83,75 +130,75 @@ row-back row f = row-same (omega arith) (omega arith) (omega arith) (omega arith
 pub row-no-spare : (row : Row) → rowSpare (rowBits row) ≡ 0
 row-no-spare row = omega arith
 
+-- a row with what stands in its spare bits
+abbrev rowWith : Row → ℕ → List Field
+rowWith row spare = inWidths rowWidths (row .market ∷ row .kind ∷ row .interval ∷ row .participant ∷ row .location ∷ row .kw .0 ∷ spare ∷ [])
+
 pub row-fits : (v : ℕ) → Fit (rowFields (rowOf v))
-row-fits v = (omega arith, (omega arith, (omega arith, (omega arith, (omega arith, (omega arith, (omega arith, tt)))))))
+row-fits v = let f = fields-fit rowWidths v in (f .0, (f .1 .0, (f .1 .1 .0, (f .1 .1 .1 .0, (f .1 .1 .1 .1 .0, (f .1 .1 .1 .1 .1 .0, (omega arith, tt)))))))
 
-row-sum : (v q3 q28 q34 q40 q44 m k i p l w s : ℕ) → v ≡ q3 * 8 + s → q3 ≡ q28 * 2 ^ 25 + w → q28 ≡ q34 * 64 + l → q34 ≡ q40 * 64 + p → q40 ≡ q44 * 16 + i → q44 ≡ m * 8 + k
-    → packed ((m, 1) ∷ (k, 3) ∷ (i, 4) ∷ (p, 6) ∷ (l, 6) ∷ (w, 25) ∷ (0, 3) ∷ []) + s ≡ v
-row-sum v q3 q28 q34 q40 q44 m k i p l w s a b c d e f = omega arith
-
--- a number of 48 bits is its row and its spare bits
-row-whole : (v : ℕ) → v < 256 ^ 6 → rowBits (rowOf v) + rowSpare v ≡ v
-row-whole v h =
-    let top : v / 2 ^ 47 ≡ v / 2 ^ 47 % 2 = omega arith in
-    row-sum v (v / 2 ^ 3) (v / 2 ^ 28) (v / 2 ^ 34) (v / 2 ^ 40) (v / 2 ^ 44) _ _ _ _ _ _ _
-    (omega arith) (step v (2 ^ 3) (2 ^ 25)) (step v (2 ^ 28) 64) (step v (2 ^ 34) 64) (step v (2 ^ 40) 16) (step v (2 ^ 44) 8 ∙ ap (λ (q : ℕ). q * 8 + v / 2 ^ 44 % 8) top)
-
-pub row-of : (v : ℕ) → v < 256 ^ 6 → rowSpare v ≡ 0 → rowBits (rowOf v) ≡ v
-row-of v h e = omega (arith, row-whole v h)
+-- a number of 48 bits without a spare bit is its row
+pub row-of : (v : ℕ) → v < 256 ^ rowSize → rowSpare v ≡ 0 → rowBits (rowOf v) ≡ v
+row-of v h e = ap (λ (spare : ℕ). packed (rowWith (rowOf v) spare)) (sym e) ∙ packed-again rowWidths v h
 
 -- ---- a transaction
 
-pub transaction-same : {m m' i i' p p' o o' l l' w w' : ℕ} → m ≡ m' → i ≡ i' → p ≡ p' → o ≡ o' → l ≡ l' → w ≡ w'
-    → _≡_ {A = Transaction} (record { market = m; interval = i; participant = p; source = o; sink = l; kw = record { 0 = w } }) (record { market = m'; interval = i'; participant = p'; source = o'; sink = l'; kw = record { 0 = w' } })
-transaction-same a b c d e f = cc
+pub transaction-same : {m m' i i' p p' s s' o o' l l' w w' : ℕ} → m ≡ m' → i ≡ i' → p ≡ p' → s ≡ s' → o ≡ o' → l ≡ l' → w ≡ w'
+    → _≡_ {A = Transaction} (record { market = m; interval = i; participant = p; seller = s; source = o; sink = l; kw = record { 0 = w } }) (record { market = m'; interval = i'; participant = p'; seller = s'; source = o'; sink = l'; kw = record { 0 = w' } })
+transaction-same a b c d e f g = cc
 
-pub transaction-packed : (t : Transaction) → Fit (transactionFields t) → transactionBits t < 256 ^ 6
-transaction-packed t f = omega arith
+pub transaction-packed : (edition : Edition) (t : Transaction) → Fit (transactionFields edition t) → transactionBits edition t < 256 ^ transactionSize edition
+transaction-packed Edition.PathOnly t f = packed-below (transactionFields Edition.PathOnly t) f
+transaction-packed Edition.WithSeller t f = packed-below (transactionFields Edition.WithSeller t) f
 
-pub transaction-back : (t : Transaction) → Fit (transactionFields t) → transactionOf (transactionBits t) ≡ t
-transaction-back t f = transaction-same (omega arith) (omega arith) (omega arith) (omega arith) (omega arith) (omega arith)
+pub transaction-back : (edition : Edition) (t : Transaction) → Fit (transactionFields edition t) → transactionOf edition (transactionBits edition t) ≡ t
+transaction-back Edition.PathOnly t f = transaction-same (omega arith) (omega arith) (omega arith) (omega arith) (omega arith) (omega arith) (omega arith)
+transaction-back Edition.WithSeller t f = transaction-same (omega arith) (omega arith) (omega arith) (omega arith) (omega arith) (omega arith) (omega arith)
 
-pub transaction-fits : (v : ℕ) → Fit (transactionFields (transactionOf v))
-transaction-fits v = (omega arith, (omega arith, (omega arith, (omega arith, (omega arith, (omega arith, tt))))))
+pub transaction-no-spare : (edition : Edition) (t : Transaction) → transactionSpare edition (transactionBits edition t) ≡ 0
+transaction-no-spare Edition.PathOnly t = omega arith
+transaction-no-spare Edition.WithSeller t = omega arith
 
-transaction-sum : (v q25 q31 q37 q43 m i p o l w : ℕ) → v ≡ q25 * 2 ^ 25 + w → q25 ≡ q31 * 64 + l → q31 ≡ q37 * 64 + o → q37 ≡ q43 * 64 + p → q43 ≡ m * 16 + i
-    → packed ((m, 1) ∷ (i, 4) ∷ (p, 6) ∷ (o, 6) ∷ (l, 6) ∷ (w, 25) ∷ []) ≡ v
-transaction-sum v q25 q31 q37 q43 m i p o l w a b c d e = omega arith
+-- a transaction with what stands in its spare bits
+abbrev transactionWith : Edition → Transaction → ℕ → List Field
+transactionWith edition t spare = inWidths (transactionWidths edition) (t .market ∷ t .interval ∷ t .participant ∷ t .seller ∷ t .source ∷ t .sink ∷ t .kw .0 ∷ spare ∷ [])
 
--- a number of 48 bits is its transaction
-pub transaction-of : (v : ℕ) → v < 256 ^ 6 → transactionBits (transactionOf v) ≡ v
-transaction-of v h =
-    let top : v / 2 ^ 47 ≡ v / 2 ^ 47 % 2 = omega arith in
-    transaction-sum v (v / 2 ^ 25) (v / 2 ^ 31) (v / 2 ^ 37) (v / 2 ^ 43) _ _ _ _ _ _
-    (omega arith) (step v (2 ^ 25) 64) (step v (2 ^ 31) 64) (step v (2 ^ 37) 64) (step v (2 ^ 43) 16 ∙ ap (λ (q : ℕ). q * 16 + v / 2 ^ 43 % 16) top)
+-- the fields of a number, but for the last of eight
+but-last : {a b c d e f g h : Type 0} → (a × (b × (c × (d × (e × (f × (g × (h × Unit {0})))))))) → {k : Type 0} → k → (a × (b × (c × (d × (e × (f × (g × (k × Unit {0}))))))))
+but-last x k = (x .0, (x .1 .0, (x .1 .1 .0, (x .1 .1 .1 .0, (x .1 .1 .1 .1 .0, (x .1 .1 .1 .1 .1 .0, (x .1 .1 .1 .1 .1 .1 .0, (k, tt))))))))
+
+pub transaction-fits : (edition : Edition) (v : ℕ) → Fit (transactionFields edition (transactionOf edition v))
+transaction-fits Edition.PathOnly v = but-last (fields-fit (transactionWidths Edition.PathOnly) v) (omega arith)
+transaction-fits Edition.WithSeller v = but-last (fields-fit (transactionWidths Edition.WithSeller) v) (omega arith)
+
+-- a number of so many bytes without a spare bit is its transaction
+pub transaction-of : (edition : Edition) (v : ℕ) → v < 256 ^ transactionSize edition → transactionSpare edition v ≡ 0 → transactionBits edition (transactionOf edition v) ≡ v
+transaction-of edition v h e = ap (λ (spare : ℕ). packed (transactionWith edition (transactionOf edition v) spare)) (sym e) ∙ by edition h
+  where
+    by : (edition : Edition) → v < 256 ^ transactionSize edition → packed (transactionWith edition (transactionOf edition v) (transactionSpare edition v)) ≡ v
+    by Edition.PathOnly h = packed-again (transactionWidths Edition.PathOnly) v h
+    by Edition.WithSeller h = packed-again (transactionWidths Edition.WithSeller) v h
 
 -- ---- a header of so many participants, locations, rows and transactions
 
-abbrev pub counted : ℕ → ℕ → ℕ → ℕ → Header
-counted p l r t = record { participants = p; locations = l; rows = r; transactions = t; spare = 0 }
+abbrev pub counted : ℕ → ℕ → ℕ → ℕ → ℕ → Header
+counted p l r t e = record { participants = p; locations = l; rows = r; transactions = t; edition = e }
 
-header-same : {p p' l l' r r' t t' s s' : ℕ} → p ≡ p' → l ≡ l' → r ≡ r' → t ≡ t' → s ≡ s'
-    → _≡_ {A = Header} (record { participants = p; locations = l; rows = r; transactions = t; spare = s }) (record { participants = p'; locations = l'; rows = r'; transactions = t'; spare = s' })
+header-same : {p p' l l' r r' t t' e e' : ℕ} → p ≡ p' → l ≡ l' → r ≡ r' → t ≡ t' → e ≡ e' → counted p l r t e ≡ counted p' l' r' t' e'
 header-same a b c d e = cc
 
-module _ (p l r t : ℕ) (f : Fit ((p - 1, 6) ∷ (l - 1, 6) ∷ (r, 12) ∷ (t, 10) ∷ (0, 6) ∷ [])) where
-  pub header-packed : headerBits p l r t < 256 ^ 5
+module _ (p l r t e : ℕ) (f : Fit (countFields p l r t e)) where
+  pub header-packed : headerBits p l r t e < 256 ^ headerSize
   header-packed = omega arith
 
-  pub header-back : 1 ≤ p → 1 ≤ l → headerOf (headerBits p l r t) ≡ counted p l r t
+  pub header-back : 1 ≤ p → 1 ≤ l → headerOf (headerBits p l r t e) ≡ counted p l r t e
   header-back some-p some-l = header-same (omega arith) (omega arith) (omega arith) (omega arith) (omega arith)
 
-header-sum : (v q6 q16 q28 p l r t s : ℕ) → v ≡ q6 * 64 + s → q6 ≡ q16 * 1024 + t → q16 ≡ q28 * 4096 + r → q28 ≡ p * 64 + l → s ≡ 0
-    → headerBits (p + 1) (l + 1) r t ≡ v
-header-sum v q6 q16 q28 p l r t s a b c d e = omega arith
+-- a number of 40 bits is its header
+pub header-of : (v : ℕ) → v < 256 ^ headerSize → headerBits (headerOf v .participants) (headerOf v .locations) (headerOf v .rows) (headerOf v .transactions) (headerOf v .edition) ≡ v
+header-of v h =
+    let less : (n : ℕ) → n + 1 - 1 ≡ n = λ n. omega arith in
+    ap₂ (λ (p l : ℕ). packed (inWidths headerWidths (p ∷ l ∷ headerOf v .rows ∷ headerOf v .transactions ∷ headerOf v .edition ∷ []))) (less _) (less _) ∙ packed-again headerWidths v h
 
--- a number of 40 bits without a spare bit is its header
-pub header-of : (v : ℕ) → v < 256 ^ 5 → headerOf v .spare ≡ 0 → headerBits (headerOf v .participants) (headerOf v .locations) (headerOf v .rows) (headerOf v .transactions) ≡ v
-header-of v h e =
-    let top : v / 2 ^ 34 ≡ v / 2 ^ 34 % 64 = omega arith in
-    header-sum v (v / 2 ^ 6) (v / 2 ^ 16) (v / 2 ^ 28) _ _ _ _ _
-    (omega arith) (step v (2 ^ 6) 1024) (step v (2 ^ 16) 4096) (step v (2 ^ 28) 64 ∙ ap (λ (q : ℕ). q * 64 + v / 2 ^ 28 % 64) top) e
-
-pub header-fits : (v : ℕ) → Fit ((headerOf v .participants - 1, 6) ∷ (headerOf v .locations - 1, 6) ∷ (headerOf v .rows, 12) ∷ (headerOf v .transactions, 10) ∷ (0, 6) ∷ [])
+pub header-fits : (v : ℕ) → Fit (countFields (headerOf v .participants) (headerOf v .locations) (headerOf v .rows) (headerOf v .transactions) (headerOf v .edition))
 header-fits v = (omega arith, (omega arith, (omega arith, (omega arith, (omega arith, tt)))))

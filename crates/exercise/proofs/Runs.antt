@@ -2,7 +2,7 @@
 use mathlib.Core.Path.{_≡_, refl, sym, ap, ap₂, _∙_, subst}
 use mathlib.Core.List.{List, [], _∷_, _++_, append-assoc, append-nil}
 use Prim.Native.Nat.{ℕ, zero, suc, _+_, _*_, _/_, _%_, _^_, _≤_, _<_}
-use native.Mathlib.Nat.{mul-suc}
+use native.Mathlib.Nat.{mul-suc, mul-le-mul-left}
 use native.Mathlib.Omega.{arith}
 use lib.ListN.{length, getD, take, length-append}
 use lib.Seq.{take-add}
@@ -14,6 +14,10 @@ use Rattle.ints.proofs.Tables.{tab-ext, tab-front}
 use Rattle.exercise.specs.Packed.{bytesAt}
 use Rattle.exercise.specs.Written.{bytesHigh, run}
 use Rattle.exercise.proofs.Packing.{length-high, high-at, at-after, high-back}
+
+-- thing i of n, `size` bytes each, ends no later than they do
+pub in-turn : (size i n : ℕ) → i < n → size * i + size ≤ size * n
+in-turn size i n h = omega (arith, mul-suc size i, mul-le-mul-left size h)
 
 module _ {A : Type 0} (size : ℕ) (bits : A → ℕ) where
   pub length-run : (xs : List A) → length (run size bits xs) ≡ size * length xs

@@ -1,13 +1,17 @@
--- A file that passes the order to its length: its header's spare bits are 0, it has exactly the length that the header says, and its parts lie one after the other. Assumes nothing.
-use mathlib.Core.Path.{_≡_, sym, ap, _∙_, subst}
+-- A file that passes the order to its length: its edition exists, it has exactly the length that the header says, and its parts lie one after the other. Assumes nothing.
+use mathlib.Core.Path.{_≡_, refl, sym, ap, _∙_, subst}
 use mathlib.Core.List.{List}
-use Prim.Native.Nat.{ℕ, _+_, _*_, _-_, _≤_}
+use Prim.Native.Nat.{ℕ, zero, suc, _+_, _*_, _-_, _≤_}
+use native.Mathlib.Nat.{mul-le-mul-right}
 use native.Mathlib.Omega.{arith}
 use lib.Dec.{leb, eqb}
 use lib.ListN.{length, length-take, length-drop}
 use borrow.Author.Tests.{leb-true, eqb-true}
 use Rattle.ints.proofs.Refusals.{passed}
-use Rattle.exercise.specs.File.{headerSize, header, placesOf, places, bytesFrom}
+use Rattle.exercise.specs.File.{header, placesOf, places, bytesFrom}
+use Rattle.exercise.specs.Layout.{headerSize, transactionSize, editionNumber, editionOf}
+use Rattle.hour.specs.declared.Edition.{Edition}
+use Rattle.hour.specs.declared.Edition.the-variants as Edition
 use Rattle.exercise.specs.Inside.{Small}
 use Rattle.exercise.specs.Order.{headerRefusal, frameRefusal}
 use Rattle.exercise.specs.declared.Header.{Header}
@@ -22,14 +26,14 @@ pub record Laid (h : Header) (p : Places) : Type 0 where
   pub first : p .prices ≡ 5
   pub prices : p .prices + 3 * (26 * h .locations) ≡ p .rows
   pub rows : p .rows + 6 * h .rows ≡ p .transactions
-  pub transactions : p .transactions + 6 * h .transactions ≡ p .end
+  pub transactions : p .transactions + transactionSize (editionOf (h .edition)) * h .transactions ≡ p .end
 
 pub laid : (h : Header) → Laid h (placesOf h)
 unfolding placesOf
 laid h = record { first = omega arith; prices = omega arith; rows = omega arith; transactions = omega arith }
 
 pub record Whole (file : List ℕ) : Type 0 where
-  pub spare : header file .spare ≡ 0
+  pub edition : header file .edition ≤ 1
   pub rows : header file .rows ≤ 2048
   pub transactions : header file .transactions ≤ 256
   pub begun : 5 ≤ length file
@@ -40,12 +44,12 @@ unfolding frameRefusal headerRefusal
 whole file e =
     let h = header file in
     let p1 = passed (leb headerSize (length file)) 8 _ e in
-    let p2 = passed (eqb (h .spare) 0) 8 _ (p1 .1) in
+    let p2 = passed (leb (h .edition) 1) 8 _ (p1 .1) in
     let p3 = passed (leb (h .rows) 2048) 0 _ (p2 .1) in
     let p4 = passed (leb (h .transactions) 256) 0 _ (p3 .1) in
     let p5 = passed (eqb (length file) (places file .end)) 8 0 (p4 .1) in
     record {
-      spare = eqb-true (h .spare) 0 (p2 .0);
+      edition = leb-true (h .edition) 1 (p2 .0);
       rows = leb-true (h .rows) 2048 (p3 .0);
       transactions = leb-true (h .transactions) 256 (p4 .0);
       begun = leb-true 5 (length file) (p1 .0);
@@ -69,6 +73,29 @@ small-read file h e = subst Small (sym e) (small file)
 -- a bytesFrom that lies within a file has the bytes between its two places
 pub part-length : (from to : ℕ) (file : List ℕ) → from ≤ to → to ≤ length file → length (bytesFrom from to file) ≡ to - from
 part-length from to file h l = simp (length-take, length-drop) (omega arith)
+
+-- the number of an edition is that of its header
+pub number-of : (n : ℕ) → n ≤ 1 → editionNumber (editionOf n) ≡ n
+number-of zero h = refl
+number-of (suc zero) h = refl
+number-of (suc (suc n)) h = absurd (omega arith)
+
+pub edition-back : (edition : Edition) → editionOf (editionNumber edition) ≡ edition
+edition-back Edition.PathOnly = refl
+edition-back Edition.WithSeller = refl
+
+pub numbered : (edition : Edition) → editionNumber edition ≤ 1
+numbered Edition.PathOnly = omega arith
+numbered Edition.WithSeller = omega arith
+
+-- a transaction has six or seven bytes
+pub sized : (edition : Edition) → (6 ≤ transactionSize edition) × (transactionSize edition ≤ 7)
+sized Edition.PathOnly = (omega arith, omega arith)
+sized Edition.WithSeller = (omega arith, omega arith)
+
+-- so many of them no more than seven times as many
+pub sized-most : (edition : Edition) (n : ℕ) → transactionSize edition * n ≤ 7 * n
+sized-most edition n = mul-le-mul-right n (sized edition .1)
 
 -- a file has a participant
 pub some-participant : (file : List ℕ) → 1 ≤ header file .participants

@@ -18,10 +18,12 @@ use Rattle.ints.proofs.Gather.{every-append}
 use Rattle.ints.proofs.Turns.{order-ext}
 use Rattle.ints.proofs.Twos.{twos-bits, bits-below}
 use Rattle.hour.specs.Hour.{Hour, allPrices}
-use Rattle.hour.specs.Order.{packedRowRefusal, pricesRefusal, rowsRefusal, transactionsRefusal, contentRefusal}
+use Rattle.hour.specs.Order.{packedRowRefusal, packedTransactionRefusal, pricesRefusal, rowsRefusal, transactionsRefusal, contentRefusal}
 use Rattle.hour.specs.declared.Row.{Row}
 use Rattle.hour.specs.declared.Transaction.{Transaction}
-use Rattle.exercise.specs.File.{headerSize, headerOf, header, priceSize, priceAt, pricesFrom, rowSize, rowOf, rowSpare, rowsIn, transactionSize, transactionOf, transactionsIn, placesOf, places, bytesFrom, priceBytes, rowBytes, transactionBytes, hourOf}
+use Rattle.hour.specs.declared.Edition.{Edition}
+use Rattle.exercise.specs.File.{headerOf, header, priceAt, pricesFrom, rowOf, rowSpare, rowsIn, transactionOf, transactionSpare, transactionsIn, placesOf, places, bytesFrom, priceBytes, rowBytes, transactionBytes, editionIn, hourOf}
+use Rattle.exercise.specs.Layout.{headerSize, priceWidth, priceSize, rowSize, transactionSize, editionNumber, editionOf}
 use Rattle.exercise.specs.Lists.{noSpare}
 use Rattle.exercise.specs.Order.{headerRefusal, frameRefusal, spareOf, fileRefusal}
 use Rattle.exercise.specs.Packed.{bytesAt}
@@ -29,26 +31,26 @@ use Rattle.exercise.specs.Written.{packed, bytesHigh, run, headerFields,
 use Rattle.exercise.specs.declared.Header.{Header}
 use Rattle.exercise.specs.declared.Places.{Places}
 use Rattle.exercise.proofs.Content.{Priced, priced-length, four-read}
-use Rattle.exercise.proofs.Packing.{length-high, high-at, counted, header-packed, header-back, row-packed, row-back, row-no-spare, transaction-packed, transaction-back}
+use Rattle.exercise.proofs.Packing.{length-high, high-at, counted, header-packed, header-back, row-packed, row-back, row-no-spare, transaction-packed, transaction-back, transaction-no-spare}
 use Rattle.exercise.proofs.Runs.{length-run, run-read, run-each, all-high, all-run, all-bytes}
-use Rattle.exercise.proofs.Whole.{laid}
+use Rattle.exercise.proofs.Whole.{laid, edition-back, numbered}
 
 -- a stretch in the middle
 middle : (before own after : List ℕ) (from to : ℕ) → length before ≡ from → from + length own ≡ to → bytesFrom from to (before ++ (own ++ after)) ≡ own
 middle before own after from to e f = ap (take (to - from)) (drop-at before (own ++ after) from e) ∙ take-at own after (to - from) (omega arith)
 
 -- equal hours from equal parts
-pub hour-same : {p p' l l' : ℕ} {a a' b b' c c' d d' : List ℤ} {r r' : List Row} {t t' : List Transaction} → p ≡ p' → l ≡ l' → a ≡ a' → b ≡ b' → c ≡ c' → d ≡ d' → r ≡ r' → t ≡ t'
-    → _≡_ {A = Hour} (record { participants = p; locations = l; congestionAhead = a; congestionReal = b; lossAhead = c; lossReal = d; rows = r; transactions = t })
-    (record { participants = p'; locations = l'; congestionAhead = a'; congestionReal = b'; lossAhead = c'; lossReal = d'; rows = r'; transactions = t' })
-hour-same p l a b c d r t = cc
+pub hour-same : {p p' l l' : ℕ} {a a' b b' c c' d d' : List ℤ} {r r' : List Row} {e e' : Edition} {t t' : List Transaction} → p ≡ p' → l ≡ l' → a ≡ a' → b ≡ b' → c ≡ c' → d ≡ d' → r ≡ r' → e ≡ e' → t ≡ t'
+    → _≡_ {A = Hour} (record { participants = p; locations = l; congestionAhead = a; congestionReal = b; lossAhead = c; lossReal = d; rows = r; edition = e; transactions = t })
+    (record { participants = p'; locations = l'; congestionAhead = a'; congestionReal = b'; lossAhead = c'; lossReal = d'; rows = r'; edition = e'; transactions = t' })
+hour-same p l a b c d r e t = cc
 
 module _ (hour : Hour) where
   abbrev file : List ℕ
   file = fileOf hour
 
   abbrev h : Header
-  h = counted (hour .participants) (hour .locations) (length (hour .rows)) (length (hour .transactions))
+  h = counted (hour .participants) (hour .locations) (length (hour .rows)) (length (hour .transactions)) (editionNumber (hour .edition))
 
   abbrev head : List ℕ
   head = bytesHigh headerSize (packed (headerFields hour))
@@ -59,8 +61,11 @@ module _ (hour : Hour) where
   abbrev rows : List ℕ
   rows = run rowSize bitsOfRow (hour .rows)
 
+  abbrev size : ℕ
+  size = transactionSize (hour .edition)
+
   abbrev transactions : List ℕ
-  transactions = run transactionSize bitsOfTransaction (hour .transactions)
+  transactions = run size (bitsOfTransaction (hour .edition)) (hour .transactions)
 
   -- whatever the hour, these are bytes
   pub written-bytes : Bytes file
@@ -69,9 +74,9 @@ module _ (hour : Hour) where
       (every-append (λ b. b < 256) head _ (all-high headerSize (packed (headerFields hour)))
       (every-append (λ b. b < 256) prices _ (all-run priceSize priceBits (allPrices hour))
       (every-append (λ b. b < 256) rows _ (all-run rowSize bitsOfRow (hour .rows))
-      (all-run transactionSize bitsOfTransaction (hour .transactions)))))
+      (all-run size (bitsOfTransaction (hour .edition)) (hour .transactions)))))
 
-  pub written-length : length file ≡ 5 + (3 * length (allPrices hour) + (6 * length (hour .rows) + 6 * length (hour .transactions)))
+  pub written-length : length file ≡ 5 + (3 * length (allPrices hour) + (6 * length (hour .rows) + size * length (hour .transactions)))
   written-length =
       omega (
         arith,
@@ -81,7 +86,7 @@ module _ (hour : Hour) where
         length-high headerSize (packed (headerFields hour)),
         length-run priceSize priceBits (allPrices hour),
         length-run rowSize bitsOfRow (hour .rows),
-        length-run transactionSize bitsOfTransaction (hour .transactions),
+        length-run size (bitsOfTransaction (hour .edition)) (hour .transactions),
       )
 
   module _ (f : FitsFields hour) where
@@ -94,14 +99,14 @@ module _ (hour : Hour) where
     pub written-header : header file ≡ h
     unfolding header
     written-header =
-        ap headerOf (high-at [] (prices ++ (rows ++ transactions)) headerSize (packed (headerFields hour)) 0 refl (header-packed _ _ _ _ (f .header)))
-        ∙ header-back _ _ _ _ (f .header) (f .some-participants) (f .some-locations)
+        ap headerOf (high-at [] (prices ++ (rows ++ transactions)) headerSize (packed (headerFields hour)) 0 refl (header-packed _ _ _ _ _ (f .header)))
+        ∙ header-back _ _ _ _ _ (f .header) (f .some-participants) (f .some-locations)
 
     written-places : places file ≡ placesOf h
     written-places = ap placesOf written-header
 
     pub written-end : length file ≡ placesOf h .end
-    written-end = let l = laid h in omega (arith, written-length, prices-count)
+    written-end = let l = laid h in omega (arith, written-length, prices-count, ap (λ (edition : Edition). transactionSize edition * length (hour .transactions)) (edition-back (hour .edition)))
 
     -- ---- its stretches
 
@@ -132,23 +137,26 @@ module _ (hour : Hour) where
         ∙ ap (bytesFrom (placesOf h .transactions) (placesOf h .end)) grouped
         ∙ middle front transactions [] (placesOf h .transactions) (placesOf h .end)
         (omega (arith, length-append head (prices ++ rows), length-append prices rows, length-high headerSize (packed (headerFields hour)), length-run priceSize priceBits (allPrices hour), prices-count, length-run rowSize bitsOfRow (hour .rows)))
-        (omega (arith, length-run transactionSize bitsOfTransaction (hour .transactions)))
+        (omega (arith, length-run size (bitsOfTransaction (hour .edition)) (hour .transactions), ap (λ (edition : Edition). transactionSize edition * length (hour .transactions)) (edition-back (hour .edition))))
 
     -- ---- what they hold
 
-    price-small : (z : ℤ) → InBits 24 z → priceBits z < 256 ^ 3
+    price-small : (z : ℤ) → InBits priceWidth z → priceBits z < 256 ^ priceSize
     price-small z b = bits-below 24 refl z b
 
     all-read : tab (priceAt prices) (26 * hour .locations) ≡ allPrices hour
     all-read =
         ap (tab (priceAt prices)) (sym prices-count)
-        ∙ run-read priceSize priceBits (InBits 24) price-small (twos 24) (twos-bits 24 refl) (allPrices hour) (f .prices)
+        ∙ run-read priceSize priceBits (InBits priceWidth) price-small (twos 24) (twos-bits 24 refl) (allPrices hour) (f .prices)
 
     rows-read : rowsIn rows (length (hour .rows)) ≡ hour .rows
     rows-read = run-read rowSize bitsOfRow (λ row. Fit (rowFields row)) row-packed rowOf row-back (hour .rows) (f .rows)
 
-    transactions-read : transactionsIn transactions (length (hour .transactions)) ≡ hour .transactions
-    transactions-read = run-read transactionSize bitsOfTransaction (λ t. Fit (transactionFields t)) transaction-packed transactionOf transaction-back (hour .transactions) (f .transactions)
+    transactions-read : transactionsIn (hour .edition) transactions (length (hour .transactions)) ≡ hour .transactions
+    transactions-read = run-read size (bitsOfTransaction (hour .edition)) (λ t. Fit (transactionFields (hour .edition) t)) (transaction-packed (hour .edition)) (transactionOf (hour .edition)) (transaction-back (hour .edition)) (hour .transactions) (f .transactions)
+
+    written-edition : editionIn file ≡ hour .edition
+    written-edition = ap (λ (k : Header). editionOf (k .edition)) written-header ∙ edition-back (hour .edition)
 
     -- "Reading a written file gives back the hour"
     pub written-hour : hourOf file ≡ hour
@@ -162,23 +170,35 @@ module _ (hour : Hour) where
         (ap₂ (λ (k : Header) (s : List ℕ). pricesFrom s (13 * k .locations) (k .locations)) written-header price-stretch ∙ four .2)
         (ap₂ (λ (k : Header) (s : List ℕ). pricesFrom s (14 * k .locations) (12 * k .locations)) written-header price-stretch ∙ four .3)
         (ap₂ (λ (k : Header) (s : List ℕ). rowsIn s (k .rows)) written-header row-stretch ∙ rows-read)
-        (ap₂ (λ (k : Header) (s : List ℕ). transactionsIn s (k .transactions)) written-header transaction-stretch ∙ transactions-read)
+        written-edition
+        (ap₂ (λ (k : Header) (s : List ℕ). transactionsIn (editionIn file) s (k .transactions)) written-header transaction-stretch
+        ∙ ap (λ (edition : Edition). transactionsIn edition transactions (length (hour .transactions))) written-edition ∙ transactions-read)
 
     -- ---- it is refused as the hour is
 
-    -- no row of it has a spare bit
-    written-spare : (i : ℕ) → i < length (hour .rows) → spareOf file i ≡ 0
+    -- no row of it has a spare bit, and no transaction
+    written-spare : (i : ℕ) → i < length (hour .rows) → spareOf file .row i ≡ 0
     written-spare i l =
         ap (λ (s : List ℕ). rowSpare (bytesAt s (rowSize * i) rowSize)) row-stretch
         ∙ run-each rowSize bitsOfRow (λ row. Fit (rowFields row)) row-packed (λ v. rowSpare v ≡ 0) (λ row _. row-no-spare row) (hour .rows) (f .rows) i l
 
+    written-spare-beside : (i : ℕ) → i < length (hour .transactions) → spareOf file .transaction i ≡ 0
+    written-spare-beside i l =
+        ap₂ (λ (edition : Edition) (s : List ℕ). transactionSpare edition (bytesAt s (transactionSize edition * i) (transactionSize edition))) written-edition transaction-stretch
+        ∙ run-each size (bitsOfTransaction (hour .edition)) (λ t. Fit (transactionFields (hour .edition) t)) (transaction-packed (hour .edition)) (λ v. transactionSpare (hour .edition) v ≡ 0) (λ t _. transaction-no-spare (hour .edition) t) (hour .transactions) (f .transactions) i l
+
     written-content : contentRefusal (hourOf file) (spareOf file) ≡ contentRefusal hour noSpare
-    unfolding contentRefusal rowsRefusal
+    unfolding contentRefusal rowsRefusal transactionsRefusal
     written-content =
         ap (λ (k : Hour). contentRefusal k (spareOf file)) written-hour
-        ∙ ap (λ (r : ℕ). pricesRefusal hour then r then transactionsRefusal hour)
-        (order-ext (λ i row. packedRowRefusal (hour .participants) (hour .locations) row (spareOf file i)) (λ i row. packedRowRefusal (hour .participants) (hour .locations) row (noSpare i)) 0 (hour .rows)
+        ∙ ap₂ (λ (r t : ℕ). pricesRefusal hour then r then t)
+        (order-ext (λ i row. packedRowRefusal (hour .participants) (hour .locations) row (spareOf file .row i)) (λ i row. packedRowRefusal (hour .participants) (hour .locations) row (noSpare .row i)) 0 (hour .rows)
         (λ i row _ l. ap (packedRowRefusal (hour .participants) (hour .locations) row) (written-spare i (omega arith))))
+        (order-ext (λ i t. packedTransactionRefusal (hour .participants) (hour .locations) t (spareOf file .transaction i)) (λ i t. packedTransactionRefusal (hour .participants) (hour .locations) t (noSpare .transaction i)) 0 (hour .transactions)
+        (λ i t _ l. ap (packedTransactionRefusal (hour .participants) (hour .locations) t) (written-spare-beside i (omega arith))))
+
+    known : leb (editionNumber (hour .edition)) 1 ≡ true
+    known = le-leb (editionNumber (hour .edition)) 1 (numbered (hour .edition))
 
     -- to its length: the counts, and nothing else
     written-frame : frameRefusal file ≡ unless (leb (length (hour .rows)) 2048) 1 (unless (leb (length (hour .transactions)) 256) 1 0)
@@ -188,7 +208,7 @@ module _ (hour : Hour) where
         let ended : eqb (placesOf h .end) (placesOf h .end) ≡ true = eq-eqb (placesOf h .end) (placesOf h .end) refl in
         ap (λ (t : Bool). unless t 9 (headerRefusal (header file) (length file))) begun
         ∙ ap₂ headerRefusal written-header written-end
-        ∙ rw ended refl
+        ∙ rw (known, ended) refl
 
     -- the same number, not only the same verdict
     pub written-refusal : fileRefusal file ≡ (unless (leb (length (hour .rows)) 2048) 1 (unless (leb (length (hour .transactions)) 256) 1 0) then contentRefusal hour noSpare)

@@ -12,7 +12,7 @@ use Rattle.hour.specs.Order.{rowRefusal, transactionRefusal}
 use Rattle.exercise.specs.File.{hourOf, header, placesOf, places, priceAt}
 use Rattle.exercise.specs.Order.{headerRefusal, frameRefusal, spareOf, fileRefusal}
 use Rattle.exercise.specs.Reader.{stretch, stretchStart}
-use Rattle.hour.specs.Order.{isPrice, packedRowRefusal, pricesRefusal, rowsRefusal, transactionsRefusal, contentRefusal}
+use Rattle.hour.specs.Order.{isPrice, packedRowRefusal, packedTransactionRefusal, pricesRefusal, rowsRefusal, transactionsRefusal, contentRefusal}
 
 -- the order from the prices to the last transaction
 abbrev content : List ℕ → ℕ
@@ -31,12 +31,12 @@ statement =
     ++ times 13 (0x00 ∷ 0x00 ∷ 0x78 ∷ 0x00 ∷ 0x02 ∷ 0x58 ∷ [])
     ++ (0x80 ∷ 0x00 ∷ 0x10 ∷ 0x18 ∷ 0x6A ∷ 0x00 ∷ 0x90 ∷ 0x04 ∷ 0x00 ∷ 0x0D ∷ 0x6D ∷ 0x80 ∷ 0xA0 ∷ 0x04 ∷ 0x10 ∷ 0x0C ∷ 0x35 ∷ 0x00 ∷ [])
 
-counts : header statement ≡ record { participants = 2; locations = 2; rows = 3; transactions = 0; spare = 0 }
+counts : header statement ≡ record { participants = 2; locations = 2; rows = 3; transactions = 0; edition = 0 }
 unfolding header bytesAt
 counts = refl
 
 passes : fileRefusal statement ≡ 0
-unfolding header bytesAt placesOf headerRefusal frameRefusal contentRefusal pricesRefusal rowsRefusal transactionsRefusal inOrder tab all packedRowRefusal rowRefusal transactionRefusal
+unfolding header bytesAt placesOf headerRefusal frameRefusal contentRefusal pricesRefusal rowsRefusal transactionsRefusal inOrder tab all packedRowRefusal rowRefusal packedTransactionRefusal transactionRefusal
 passes = refl
 
 loss-prices : hourOf statement .lossAhead ≡ pos 120 ∷ pos 600 ∷ []
@@ -56,7 +56,7 @@ unfolding header bytesAt placesOf tab
 positions = refl
 
 -- "The longest file has 18,821 bytes"
-longest : placesOf (record { participants = 64; locations = 64; rows = 2048; transactions = 256; spare = 0 }) .end ≡ 18821
+longest : placesOf (record { participants = 64; locations = 64; rows = 2048; transactions = 256; edition = 0 }) .end ≡ 18821
 unfolding placesOf
 longest = refl
 
@@ -126,17 +126,17 @@ sound-row : hourOf sound .rows ≡ record { market = 1; kind = 2; interval = 11;
 unfolding header bytesAt placesOf tab
 sound-row = refl
 
-sound-transaction : hourOf sound .transactions ≡ record { market = 1; interval = 9; participant = 1; source = 0; sink = 0; kw = record { 0 = 7 } } ∷ []
+sound-transaction : hourOf sound .transactions ≡ record { market = 1; interval = 9; participant = 1; seller = 0; source = 0; sink = 0; kw = record { 0 = 7 } } ∷ []
 unfolding header bytesAt placesOf tab
 sound-transaction = refl
 
 -- the row's bytes, where they stand
 sound-stretch : stretch sound ≡ export
-unfolding header bytesAt placesOf headerRefusal frameRefusal contentRefusal pricesRefusal rowsRefusal transactionsRefusal inOrder tab all packedRowRefusal rowRefusal transactionRefusal
+unfolding header bytesAt placesOf headerRefusal frameRefusal contentRefusal pricesRefusal rowsRefusal transactionsRefusal inOrder tab all packedRowRefusal rowRefusal packedTransactionRefusal transactionRefusal
 sound-stretch = refl
 
 sound-start : stretchStart sound ≡ 83
-unfolding header bytesAt placesOf headerRefusal frameRefusal contentRefusal pricesRefusal rowsRefusal transactionsRefusal inOrder tab all packedRowRefusal rowRefusal transactionRefusal
+unfolding header bytesAt placesOf headerRefusal frameRefusal contentRefusal pricesRefusal rowsRefusal transactionsRefusal inOrder tab all packedRowRefusal rowRefusal packedTransactionRefusal transactionRefusal
 sound-start = refl
 
 -- ---- what is wrong: the price 8,388,607, a spare bit (9), kind 6 (4), a day-ahead transaction in interval 1 (4)
@@ -155,24 +155,24 @@ tooLate = 0x08 ∷ 0x20 ∷ 0x00 ∷ 0x00 ∷ 0x00 ∷ 0x07 ∷ []
 
 -- the last price, before the row
 price-first : content (oneRow highPrice noKind tooLate) ≡ 2
-unfolding header bytesAt placesOf contentRefusal pricesRefusal rowsRefusal transactionsRefusal inOrder tab all packedRowRefusal rowRefusal transactionRefusal
+unfolding header bytesAt placesOf contentRefusal pricesRefusal rowsRefusal transactionsRefusal inOrder tab all packedRowRefusal rowRefusal packedTransactionRefusal transactionRefusal
 price-first = refl
 
 row-next : content (oneRow noPrice spareSet tooLate) ≡ 9
-unfolding header bytesAt placesOf contentRefusal pricesRefusal rowsRefusal transactionsRefusal inOrder tab all packedRowRefusal rowRefusal transactionRefusal
+unfolding header bytesAt placesOf contentRefusal pricesRefusal rowsRefusal transactionsRefusal inOrder tab all packedRowRefusal rowRefusal packedTransactionRefusal transactionRefusal
 row-next = refl
 
 transaction-last : content (oneRow noPrice export tooLate) ≡ 4
-unfolding header bytesAt placesOf contentRefusal pricesRefusal rowsRefusal transactionsRefusal inOrder tab all packedRowRefusal rowRefusal transactionRefusal
+unfolding header bytesAt placesOf contentRefusal pricesRefusal rowsRefusal transactionsRefusal inOrder tab all packedRowRefusal rowRefusal packedTransactionRefusal transactionRefusal
 transaction-last = refl
 
 -- such a file has no stretch, wrong as it is in its last transaction only
 no-stretch : stretch (oneRow noPrice export tooLate) ≡ []
-unfolding header bytesAt placesOf headerRefusal frameRefusal contentRefusal pricesRefusal rowsRefusal transactionsRefusal inOrder tab all packedRowRefusal rowRefusal transactionRefusal
+unfolding header bytesAt placesOf headerRefusal frameRefusal contentRefusal pricesRefusal rowsRefusal transactionsRefusal inOrder tab all packedRowRefusal rowRefusal packedTransactionRefusal transactionRefusal
 no-stretch = refl
 
 no-start : stretchStart (oneRow noPrice export tooLate) ≡ 0
-unfolding header bytesAt placesOf headerRefusal frameRefusal contentRefusal pricesRefusal rowsRefusal transactionsRefusal inOrder tab all packedRowRefusal rowRefusal transactionRefusal
+unfolding header bytesAt placesOf headerRefusal frameRefusal contentRefusal pricesRefusal rowsRefusal transactionsRefusal inOrder tab all packedRowRefusal rowRefusal packedTransactionRefusal transactionRefusal
 no-start = refl
 
 -- "rows in turn": two rows, the first with 9 and the second with 4, and the other way about
@@ -196,11 +196,11 @@ abbrev tooMuch : List ℕ
 tooMuch = 0xC8 ∷ 0x20 ∷ 0x01 ∷ 0x31 ∷ 0x2D ∷ 0x01 ∷ []
 
 paths-in-turn : content (twoPaths tooMuch tooLate) ≡ 2
-unfolding header bytesAt placesOf contentRefusal pricesRefusal rowsRefusal transactionsRefusal inOrder tab all transactionRefusal
+unfolding header bytesAt placesOf contentRefusal pricesRefusal rowsRefusal transactionsRefusal inOrder tab all packedTransactionRefusal transactionRefusal
 paths-in-turn = refl
 
 paths-in-turn-too : content (twoPaths tooLate tooMuch) ≡ 4
-unfolding header bytesAt placesOf contentRefusal pricesRefusal rowsRefusal transactionsRefusal inOrder tab all transactionRefusal
+unfolding header bytesAt placesOf contentRefusal pricesRefusal rowsRefusal transactionsRefusal inOrder tab all packedTransactionRefusal transactionRefusal
 paths-in-turn-too = refl
 
 -- ---- the lines of the order to the length, each before the next one
@@ -209,9 +209,18 @@ four-bytes : frameRefusal (0xFF ∷ 0xFF ∷ 0xFF ∷ 0xFF ∷ []) ≡ 9
 unfolding frameRefusal
 four-bytes = refl
 
-spare-bit : frameRefusal (0xFF ∷ 0xFF ∷ 0xFF ∷ 0xFF ∷ 0xC1 ∷ []) ≡ 9
+-- document 02, ticket 2: "9 for any other edition". The header's last six bits are 2, and 63, with 4,095 rows and 1,023 transactions; with 1 it is these that are refused
+edition-2 : frameRefusal (0xFF ∷ 0xFF ∷ 0xFF ∷ 0xFF ∷ 0xC2 ∷ []) ≡ 9
 unfolding frameRefusal headerRefusal header bytesAt
-spare-bit = refl
+edition-2 = refl
+
+edition-63 : frameRefusal (0xFF ∷ 0xFF ∷ 0xFF ∷ 0xFF ∷ 0xFF ∷ []) ≡ 9
+unfolding frameRefusal headerRefusal header bytesAt
+edition-63 = refl
+
+edition-1 : frameRefusal (0xFF ∷ 0xFF ∷ 0xFF ∷ 0xFF ∷ 0xC1 ∷ []) ≡ 1
+unfolding frameRefusal headerRefusal header bytesAt
+edition-1 = refl
 
 many-rows : frameRefusal (0x00 ∷ 0x08 ∷ 0x01 ∷ 0x00 ∷ 0x00 ∷ []) ≡ 1
 unfolding frameRefusal headerRefusal header bytesAt
@@ -239,7 +248,7 @@ unfolding frameRefusal headerRefusal header bytesAt placesOf
 byte-more = refl
 
 -- as many rows and transactions as may be
-most : headerRefusal (record { participants = 64; locations = 64; rows = 2048; transactions = 256; spare = 0 }) 18821 ≡ 0
+most : headerRefusal (record { participants = 64; locations = 64; rows = 2048; transactions = 256; edition = 0 }) 18821 ≡ 0
 unfolding headerRefusal placesOf
 most = refl
 

@@ -16,12 +16,12 @@ use Rattle.exercise.specs.File.{header, placesOf, hourOf}
 use Rattle.exercise.specs.Order.{headerRefusal, frameRefusal, inNumbers, inBytes, hourRefusal}
 use Rattle.hour.specs.Charges.{aheadAt, realAt, aheadPath, realPath, positionCharge, pathCharge, charge, congestionCharges, lossCharges}
 use Rattle.hour.specs.Surplus.{surplus, shares, credits, nets}
-use Rattle.hour.specs.Order.{packedRowRefusal, pricesRefusal, rowsRefusal, transactionsRefusal, contentRefusal}
+use Rattle.hour.specs.Order.{packedRowRefusal, packedTransactionRefusal, pricesRefusal, rowsRefusal, transactionsRefusal, contentRefusal}
 
 -- "0 0 1000 927 73", "1 0 390 463 -73"
 
 unrefused : hourRefusal inNumbers statement (2 ∷ 2 ∷ 2 ∷ 2 ∷ []) ≡ 0
-unfolding hourRefusal all frameRefusal headerRefusal contentRefusal pricesRefusal rowsRefusal transactionsRefusal inOrder tab packedRowRefusal rowRefusal transactionRefusal surplusRefusal total sumN surplus shares centsOf charge positionCharge pathCharge aheadAt realAt aheadPath realPath Σℤ sumTo header bytesAt placesOf
+unfolding hourRefusal all frameRefusal headerRefusal contentRefusal pricesRefusal rowsRefusal transactionsRefusal inOrder tab packedRowRefusal rowRefusal packedTransactionRefusal transactionRefusal surplusRefusal total sumN surplus shares centsOf charge positionCharge pathCharge aheadAt realAt aheadPath realPath Σℤ sumTo header bytesAt placesOf
 unrefused = refl
 
 congestion : congestionCharges (hourOf statement) ≡ pos 0 ∷ pos 0 ∷ []
@@ -120,27 +120,27 @@ tooMuch = 0x80 ∷ 0x00 ∷ 0x01 ∷ 0x31 ∷ 0x2D ∷ 0x01 ∷ []
 
 -- a surplus of 10,000,000,000 cents, and nobody to share it: 10 before 7
 beyond : hourRefusal inNumbers (smallFile noPrice highest heaviest) (1 ∷ 1 ∷ 1 ∷ 1 ∷ []) ≡ 10
-unfolding hourRefusal all frameRefusal headerRefusal contentRefusal pricesRefusal rowsRefusal transactionsRefusal inOrder tab packedRowRefusal rowRefusal transactionRefusal surplusRefusal total sumN surplus shares centsOf charge positionCharge pathCharge aheadAt realAt aheadPath realPath Σℤ sumTo header bytesAt placesOf
+unfolding hourRefusal all frameRefusal headerRefusal contentRefusal pricesRefusal rowsRefusal transactionsRefusal inOrder tab packedRowRefusal rowRefusal packedTransactionRefusal transactionRefusal surplusRefusal total sumN surplus shares centsOf charge positionCharge pathCharge aheadAt realAt aheadPath realPath Σℤ sumTo header bytesAt placesOf
 beyond = refl
 
 -- a surplus of 500,000 cents, and nobody to share it
 nobody : hourRefusal inNumbers (smallFile noPrice highest light) (1 ∷ 1 ∷ 1 ∷ 1 ∷ []) ≡ 7
-unfolding hourRefusal all frameRefusal headerRefusal contentRefusal pricesRefusal rowsRefusal transactionsRefusal inOrder tab packedRowRefusal rowRefusal transactionRefusal surplusRefusal total sumN surplus shares centsOf charge positionCharge pathCharge aheadAt realAt aheadPath realPath Σℤ sumTo header bytesAt placesOf
+unfolding hourRefusal all frameRefusal headerRefusal contentRefusal pricesRefusal rowsRefusal transactionsRefusal inOrder tab packedRowRefusal rowRefusal packedTransactionRefusal transactionRefusal surplusRefusal total sumN surplus shares centsOf charge positionCharge pathCharge aheadAt realAt aheadPath realPath Σℤ sumTo header bytesAt placesOf
 nobody = refl
 
 -- a row's spare bit before the surplus of 10,000,000,000 cents
 row-before : hourRefusal inNumbers (smallFile noPrice highest spared) (1 ∷ 1 ∷ 1 ∷ 1 ∷ []) ≡ 9
-unfolding hourRefusal all frameRefusal headerRefusal contentRefusal pricesRefusal rowsRefusal transactionsRefusal inOrder tab packedRowRefusal rowRefusal transactionRefusal header bytesAt placesOf
+unfolding hourRefusal all frameRefusal headerRefusal contentRefusal pricesRefusal rowsRefusal transactionsRefusal inOrder tab packedRowRefusal rowRefusal packedTransactionRefusal transactionRefusal header bytesAt placesOf
 row-before = refl
 
 -- a transaction of 20,000,001 kW before it
 transaction-before : hourRefusal inNumbers (pathFile highest heaviest tooMuch) (1 ∷ 1 ∷ 1 ∷ 1 ∷ []) ≡ 2
-unfolding hourRefusal all frameRefusal headerRefusal contentRefusal pricesRefusal rowsRefusal transactionsRefusal inOrder tab packedRowRefusal rowRefusal transactionRefusal header bytesAt placesOf
+unfolding hourRefusal all frameRefusal headerRefusal contentRefusal pricesRefusal rowsRefusal transactionsRefusal inOrder tab packedRowRefusal rowRefusal packedTransactionRefusal transactionRefusal header bytesAt placesOf
 transaction-before = refl
 
 -- 2 before them
 price-first : hourRefusal inNumbers (smallFile higher highest heaviest) (1 ∷ 1 ∷ 1 ∷ 1 ∷ []) ≡ 2
-unfolding hourRefusal all frameRefusal headerRefusal contentRefusal pricesRefusal rowsRefusal transactionsRefusal inOrder tab packedRowRefusal rowRefusal transactionRefusal header bytesAt placesOf
+unfolding hourRefusal all frameRefusal headerRefusal contentRefusal pricesRefusal rowsRefusal transactionsRefusal inOrder tab packedRowRefusal rowRefusal packedTransactionRefusal transactionRefusal header bytesAt placesOf
 price-first = refl
 
 -- wrong lists before the price, and after the length: the file is a byte too long
@@ -161,7 +161,7 @@ abbrev dear : List ℕ
 dear = replicate 80 0 ++ (0x7F ∷ 0xFF ∷ 0xFF ∷ [])
 
 hour-passes : hourRefusal inBytes quiet (8 ∷ 8 ∷ 8 ∷ 8 ∷ []) ≡ 0
-unfolding hourRefusal all frameRefusal headerRefusal contentRefusal pricesRefusal rowsRefusal transactionsRefusal inOrder tab packedRowRefusal rowRefusal transactionRefusal surplusRefusal total sumN surplus shares centsOf charge positionCharge pathCharge aheadAt realAt aheadPath realPath Σℤ sumTo header bytesAt placesOf
+unfolding hourRefusal all frameRefusal headerRefusal contentRefusal pricesRefusal rowsRefusal transactionsRefusal inOrder tab packedRowRefusal rowRefusal packedTransactionRefusal transactionRefusal surplusRefusal total sumN surplus shares centsOf charge positionCharge pathCharge aheadAt realAt aheadPath realPath Σℤ sumTo header bytesAt placesOf
 hour-passes = refl
 
 price-beyond : hourRefusal inBytes dear (8 ∷ 8 ∷ 8 ∷ 8 ∷ []) ≡ 2

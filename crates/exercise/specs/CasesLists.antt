@@ -9,7 +9,8 @@ use lib.ListN.{take, drop}
 use Rattle.ints.specs.Table.{tab, all}
 use Rattle.ints.specs.Turn.{inOrder}
 use Rattle.numbers.specs.Bytes.{lowestFirst, bytesOf, encoded}
-use Rattle.hour.specs.Order.{rowRefusal, packedRowRefusal, transactionRefusal, pricesRefusal, rowsRefusal, transactionsRefusal, contentRefusal}
+use Rattle.hour.specs.Order.{rowRefusal, packedRowRefusal, packedTransactionRefusal, transactionRefusal, pricesRefusal, rowsRefusal, transactionsRefusal, contentRefusal}
+use Rattle.hour.specs.declared.Edition.the-variants as Edition
 use Rattle.exercise.specs.CasesFile.{times}
 use Rattle.exercise.specs.CasesWritten.{mixed, mixedFile}
 use Rattle.exercise.specs.File.{header, placesOf}
@@ -18,43 +19,52 @@ use Rattle.exercise.specs.Order.{headerRefusal, frameRefusal}
 use Rattle.exercise.specs.Packed.{bytesAt}
 use Rattle.exercise.specs.Written.{bytesHigh, run}
 
--- ---- 1: participants, locations, rows, transactions, then the three lists' lengths, ragged ones too
+-- ---- 9: the edition (document 02, ticket 2); 1: participants, locations, rows, transactions, then the three lists' lengths, ragged ones too
 
 pub record CountCases : Type 0 where
-  pub least : countsRefusal (pos 1) (pos 1) (pos 0) (pos 0) ≡ 0
-  pub most : countsRefusal (pos 64) (pos 64) (pos 2048) (pos 256) ≡ 0
-  pub no-participants : countsRefusal (pos 0) (pos 1) (pos 0) (pos 0) ≡ 1
-  pub participants-65 : countsRefusal (pos 65) (pos 1) (pos 0) (pos 0) ≡ 1
-  pub participants-below-0 : countsRefusal (negsuc 0) (pos 1) (pos 0) (pos 0) ≡ 1
-  pub no-locations : countsRefusal (pos 1) (pos 0) (pos 0) (pos 0) ≡ 1
-  pub locations-65 : countsRefusal (pos 1) (pos 65) (pos 0) (pos 0) ≡ 1
-  pub rows-below-0 : countsRefusal (pos 1) (pos 1) (negsuc 0) (pos 0) ≡ 1
-  pub rows-2049 : countsRefusal (pos 1) (pos 1) (pos 2049) (pos 0) ≡ 1
-  pub transactions-below-0 : countsRefusal (pos 1) (pos 1) (pos 0) (negsuc 0) ≡ 1
-  pub transactions-257 : countsRefusal (pos 1) (pos 1) (pos 0) (pos 257) ≡ 1
+  pub least : countsRefusal (pos 1) (pos 1) (pos 0) (pos 0) (pos 0) ≡ 0
+  pub most : countsRefusal (pos 64) (pos 64) (pos 2048) (pos 256) (pos 0) ≡ 0
+  pub no-participants : countsRefusal (pos 0) (pos 1) (pos 0) (pos 0) (pos 0) ≡ 1
+  pub participants-65 : countsRefusal (pos 65) (pos 1) (pos 0) (pos 0) (pos 0) ≡ 1
+  pub participants-below-0 : countsRefusal (negsuc 0) (pos 1) (pos 0) (pos 0) (pos 0) ≡ 1
+  pub no-locations : countsRefusal (pos 1) (pos 0) (pos 0) (pos 0) (pos 0) ≡ 1
+  pub locations-65 : countsRefusal (pos 1) (pos 65) (pos 0) (pos 0) (pos 0) ≡ 1
+  pub rows-below-0 : countsRefusal (pos 1) (pos 1) (negsuc 0) (pos 0) (pos 0) ≡ 1
+  pub rows-2049 : countsRefusal (pos 1) (pos 1) (pos 2049) (pos 0) (pos 0) ≡ 1
+  pub transactions-below-0 : countsRefusal (pos 1) (pos 1) (pos 0) (negsuc 0) (pos 0) ≡ 1
+  pub transactions-257 : countsRefusal (pos 1) (pos 1) (pos 0) (pos 257) (pos 0) ≡ 1
+  -- the edition before the participants
+  pub edition-1 : countsRefusal (pos 0) (pos 1) (pos 0) (pos 0) (pos 1) ≡ 1
+  pub edition-2 : countsRefusal (pos 0) (pos 1) (pos 0) (pos 0) (pos 2) ≡ 9
+  pub edition-below-0 : countsRefusal (pos 0) (pos 1) (pos 0) (pos 0) (negsuc 0) ≡ 9
+  pub most-with-seller : countsRefusal (pos 64) (pos 64) (pos 2048) (pos 256) (pos 1) ≡ 0
 
 pub count-cases : CountCases
 unfolding countsRefusal
-count-cases = record { least = refl; most = refl; no-participants = refl; participants-65 = refl; participants-below-0 = refl; no-locations = refl; locations-65 = refl; rows-below-0 = refl; rows-2049 = refl; transactions-below-0 = refl; transactions-257 = refl }
+count-cases = record { least = refl; most = refl; no-participants = refl; participants-65 = refl; participants-below-0 = refl; no-locations = refl; locations-65 = refl; rows-below-0 = refl; rows-2049 = refl; transactions-below-0 = refl; transactions-257 = refl; edition-1 = refl; edition-2 = refl; edition-below-0 = refl; most-with-seller = refl }
 
 pub record LengthCases : Type 0 where
-  pub right : listsRefusal 2 3 1 416 144 48 ≡ 0
-  pub prices-short : listsRefusal 2 3 1 408 144 48 ≡ 1
-  pub prices-ragged : listsRefusal 2 3 1 417 144 48 ≡ 1
-  pub rows-long : listsRefusal 2 3 1 416 152 48 ≡ 1
-  pub rows-ragged : listsRefusal 2 3 1 416 143 48 ≡ 1
-  pub transactions-short : listsRefusal 2 3 1 416 144 0 ≡ 1
-  pub transactions-ragged : listsRefusal 2 3 1 416 144 49 ≡ 1
+  pub right : listsRefusal 2 3 1 Edition.PathOnly 416 144 48 ≡ 0
+  pub prices-short : listsRefusal 2 3 1 Edition.PathOnly 408 144 48 ≡ 1
+  pub prices-ragged : listsRefusal 2 3 1 Edition.PathOnly 417 144 48 ≡ 1
+  pub rows-long : listsRefusal 2 3 1 Edition.PathOnly 416 152 48 ≡ 1
+  pub rows-ragged : listsRefusal 2 3 1 Edition.PathOnly 416 143 48 ≡ 1
+  pub transactions-short : listsRefusal 2 3 1 Edition.PathOnly 416 144 0 ≡ 1
+  pub transactions-ragged : listsRefusal 2 3 1 Edition.PathOnly 416 144 49 ≡ 1
+  -- seven numbers a transaction with a seller, 168 bytes for three
+  pub sevens : listsRefusal 2 0 3 Edition.WithSeller 416 0 168 ≡ 0
+  pub sixes-for-sevens : listsRefusal 2 0 3 Edition.WithSeller 416 0 144 ≡ 1
+  pub sevens-for-sixes : listsRefusal 2 0 3 Edition.PathOnly 416 0 168 ≡ 1
 
 pub length-cases : LengthCases
 unfolding listsRefusal
-length-cases = record { right = refl; prices-short = refl; prices-ragged = refl; rows-long = refl; rows-ragged = refl; transactions-short = refl; transactions-ragged = refl }
+length-cases = record { right = refl; prices-short = refl; prices-ragged = refl; rows-long = refl; rows-ragged = refl; transactions-short = refl; transactions-ragged = refl; sevens = refl; sixes-for-sevens = refl; sevens-for-sixes = refl }
 
 -- ---- an hour of 2 participants, 1 location, a row and a transaction, which has 95 bytes
 
 abbrev given : ℤ → ℤ → List ℤ → List ℤ → ℕ → ℕ
 given participants price row transaction room =
-    writeRefusal (content participants (pos 1) (pos 1) (pos 1) (encoded (price ∷ tab (λ _. pos 0) 25)) (encoded row) (encoded transaction)) room
+    writeRefusal (content participants (pos 1) (pos 1) (pos 1) (pos 0) (encoded (price ∷ tab (λ _. pos 0) 25)) (encoded row) (encoded transaction)) room
 
 abbrev row : ℤ → ℤ → ℤ → ℤ → ℤ → ℤ → List ℤ
 row m kind k p l kw = m ∷ kind ∷ k ∷ p ∷ l ∷ kw ∷ []
@@ -108,7 +118,7 @@ pub record WriteCases : Type 0 where
   pub more-room : given (pos 2) (pos 0) good path 96 ≡ 0
 
 pub write-cases : WriteCases
-unfolding writeRefusal countsRefusal listsRefusal contentRefusal pricesRefusal rowsRefusal transactionsRefusal inOrder tab all packedRowRefusal rowRefusal transactionRefusal encoded bytesOf lowestFirst bytesHigh run
+unfolding writeRefusal countsRefusal listsRefusal contentRefusal pricesRefusal rowsRefusal transactionsRefusal inOrder tab all packedRowRefusal rowRefusal packedTransactionRefusal transactionRefusal encoded bytesOf lowestFirst bytesHigh run
 write-cases = record { taken = refl; counts-first = refl; price-taken = refl; price-above = refl; price-below = refl; market-below-0 = refl; market-wraps = refl; kind-below-0 = refl; kind-6 = refl; interval-below-0 = refl; participant-below-0 = refl; location-below-0 = refl; location-wraps = refl; kw-below-0 = refl; row-first = refl; path-market = refl; path-market-below-0 = refl; path-interval-below-0 = refl; path-participant-below-0 = refl; path-source-below-0 = refl; path-kw-below-0 = refl; path-participant = refl; path-source = refl; path-sink = refl; path-kw = refl; no-room = refl; more-room = refl }
 
 -- ---- the hour of CasesWritten: written from its lists, and read as them
@@ -123,7 +133,7 @@ abbrev transactions : List ℤ
 transactions = row (pos 1) (pos 4) (pos 1) (pos 0) (pos 1) (pos 33)
 
 abbrev handed : Content
-handed = content (pos 3) (pos 2) (pos 2) (pos 1) (encoded prices) (encoded rows) (encoded transactions)
+handed = content (pos 3) (pos 2) (pos 2) (pos 1) (pos 0) (encoded prices) (encoded rows) (encoded transactions)
 
 -- the same file with its first price too large
 abbrev spoilt : List ℕ
@@ -145,5 +155,5 @@ pub record MixedCases : Type 0 where
   pub lists-first : readRefusal spoilt 416 96 40 ≡ 1
 
 pub mixed-cases : MixedCases
-unfolding writeRefusal countsRefusal listsRefusal readRefusal contentRefusal pricesRefusal rowsRefusal transactionsRefusal inOrder tab all packedRowRefusal rowRefusal transactionRefusal encoded bytesOf lowestFirst bytesHigh run inTurns header bytesAt placesOf headerRefusal frameRefusal
+unfolding writeRefusal countsRefusal listsRefusal readRefusal contentRefusal pricesRefusal rowsRefusal transactionsRefusal inOrder tab all packedRowRefusal rowRefusal packedTransactionRefusal transactionRefusal encoded bytesOf lowestFirst bytesHigh run inTurns header bytesAt placesOf headerRefusal frameRefusal
 mixed-cases = record { given-hour = refl; prices-listed = refl; rows-listed = refl; transactions-listed = refl; written = refl; kept = refl; read = refl; read-short = refl; price-above = refl; lists-first = refl }

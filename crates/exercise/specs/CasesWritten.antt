@@ -5,6 +5,8 @@ use Prim.Native.Nat.{ℕ, _+_, _*_, _%_}
 use lib.IntN.{ℤ, pos, negsuc}
 use Rattle.ints.specs.Table.{tab}
 use Rattle.hour.specs.Hour.{Hour}
+use Rattle.hour.specs.declared.Edition.{Edition}
+use Rattle.hour.specs.declared.Edition.the-variants as Edition
 use Rattle.exercise.specs.CasesFile.{times, statement}
 use Rattle.exercise.specs.File.{header, placesOf, hourOf}
 use Rattle.exercise.specs.Packed.{bytesAt}
@@ -14,9 +16,9 @@ use Rattle.exercise.specs.Written.{bytesHigh, run, fileOf}
 abbrev same : ℕ → ℤ → List ℤ
 same n price = tab (λ _. price) n
 
--- document 01's hour in numbers
-abbrev paper : Hour
-paper =
+-- document 01's hour in numbers, which has no transaction, in an edition
+abbrev pub paper : Edition → Hour
+paper edition =
     record {
       participants = 2;
       locations = 2;
@@ -28,10 +30,11 @@ paper =
           ∷ record { market = 1; kind = 1; interval = 0; participant = 1; location = 0; kw = record { 0 = 110000 } }
           ∷ record { market = 1; kind = 2; interval = 0; participant = 1; location = 1; kw = record { 0 = 100000 } }
           ∷ [];
+      edition = edition;
       transactions = [];
     }
 
-written : fileOf paper ≡ statement
+written : fileOf (paper Edition.PathOnly) ≡ statement
 unfolding bytesHigh run tab
 written = refl
 
@@ -52,7 +55,8 @@ mixed =
       rows = record { market = 1; kind = 3; interval = 11; participant = 2; location = 1; kw = record { 0 = 20000000 } }
           ∷ record { market = 0; kind = 5; interval = 0; participant = 0; location = 0; kw = record { 0 = 1 } }
           ∷ [];
-      transactions = record { market = 1; interval = 4; participant = 1; source = 0; sink = 1; kw = record { 0 = 33 } } ∷ [];
+      edition = Edition.PathOnly;
+      transactions = record { market = 1; interval = 4; participant = 1; seller = 0; source = 0; sink = 1; kw = record { 0 = 33 } } ∷ [];
     }
 
 abbrev pub mixedFile : List ℕ

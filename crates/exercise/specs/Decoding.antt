@@ -9,7 +9,9 @@ use Rattle.ints.specs.Refusal.{pick, unless}
 use Rattle.ints.specs.Turn.{_then_}
 use Rattle.hour.specs.declared.Row.{Row}
 use Rattle.hour.specs.declared.Transaction.{Transaction}
-use Rattle.exercise.specs.File.{rowSize, rowAt, transactionSize, transactionAt}
+use Rattle.hour.specs.declared.Edition.{Edition}
+use Rattle.exercise.specs.Layout.{rowSize, transactionSize}
+use Rattle.exercise.specs.File.{rowAt, transactionAt}
 use Rattle.exercise.specs.Order.{rowRefusalAt, transactionRefusalAt}
 use Rattle.exercise.specs.declared.DecodedRow.{DecodedRow}
 use Rattle.exercise.specs.declared.DecodedRow.the-variants as DecodedRow
@@ -55,11 +57,12 @@ rowAloneRefusal participants locations bytes =
 abbrev pub decodedRow : ℤ → ℤ → List ℕ → DecodedRow
 decodedRow participants locations bytes = rowAnswer (rowAloneRefusal participants locations bytes) (rowAt bytes 0)
 
--- a transaction likewise: document 01 has no order for it, and docs/DECISIONS.md gives it the row's
-abbrev pub transactionAloneRefusal : ℤ → ℤ → List ℕ → ℕ
-transactionAloneRefusal participants locations bytes =
-    givenRefusal participants locations (length bytes) transactionSize
-    then transactionRefusalAt (countOf participants) (countOf locations) bytes 0
+-- a transaction of an edition likewise: document 01 has no order for it, and docs/DECISIONS.md gives it the row's
+abbrev pub transactionAloneRefusal : Edition → ℤ → ℤ → List ℕ → ℕ
+transactionAloneRefusal edition participants locations bytes =
+    givenRefusal participants locations (length bytes) (transactionSize edition)
+    then transactionRefusalAt edition (countOf participants) (countOf locations) bytes 0
 
-abbrev pub decodedTransaction : ℤ → ℤ → List ℕ → DecodedTransaction
-decodedTransaction participants locations bytes = transactionAnswer (transactionAloneRefusal participants locations bytes) (transactionAt bytes 0)
+abbrev pub decodedTransaction : Edition → ℤ → ℤ → List ℕ → DecodedTransaction
+decodedTransaction edition participants locations bytes =
+    transactionAnswer (transactionAloneRefusal edition participants locations bytes) (transactionAt edition bytes 0)

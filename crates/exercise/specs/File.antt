@@ -1,5 +1,5 @@
--- The exercise file (document 01, "The exercise file"): how header, prices, rows and transactions are packed, where they stand, and the hour that a file holds.
--- Assumes nothing.
+-- The exercise file (document 01, "The exercise file"; document 02, ticket 2): its header, prices, rows and transactions, packed by the widths of Layout.antt, where they
+-- stand, and the hour that a file holds. Assumes nothing.
 use mathlib.Core.List.{List}
 use Prim.Native.Nat.{ℕ, _+_, _*_, _-_}
 use lib.IntN.{ℤ}
@@ -7,25 +7,24 @@ use lib.ListN.{take, drop}
 use Rattle.ints.specs.Table.{tab}
 use Rattle.ints.specs.Twos.{twos}
 use Rattle.hour.specs.Hour.{Hour}
+use Rattle.hour.specs.declared.Edition.{Edition}
 use Rattle.hour.specs.declared.Row.{Row}
 use Rattle.hour.specs.declared.Transaction.{Transaction}
-use Rattle.exercise.specs.Packed.{bytesAt, field}
+use Rattle.exercise.specs.Layout.{headerWidths, headerSize, priceWidth, priceSize, rowWidths, rowSize, transactionWidths, transactionSize, editionOf}
+use Rattle.exercise.specs.Packed.{bytesAt, fieldAt}
 use Rattle.exercise.specs.declared.Header.{Header}
 use Rattle.exercise.specs.declared.Places.{Places}
 
--- ---- "Header, 40 bits: participants less 1 (6), locations less 1 (6), rows (12), transactions (10), spare (6)"
-
-abbrev pub headerSize : ℕ
-headerSize = 5
+-- ---- "Header, 40 bits: participants less 1, locations less 1, rows, transactions", edition
 
 abbrev pub headerOf : ℕ → Header
 headerOf v =
     record {
-      participants = field 40 v 0 6 + 1;
-      locations = field 40 v 6 6 + 1;
-      rows = field 40 v 12 12;
-      transactions = field 40 v 24 10;
-      spare = field 40 v 34 6;
+      participants = fieldAt headerWidths v 0 + 1;
+      locations = fieldAt headerWidths v 1 + 1;
+      rows = fieldAt headerWidths v 2;
+      transactions = fieldAt headerWidths v 3;
+      edition = fieldAt headerWidths v 4;
     }
 
 unfoldable pub header : List ℕ → Header
@@ -33,12 +32,9 @@ header file = headerOf (bytesAt file 0 headerSize)
 
 -- ---- "Prices, 24 bits each, two's complement"
 
-abbrev pub priceSize : ℕ
-priceSize = 3
-
 -- price j of a stretch of prices, and the n prices from price j on
 abbrev pub priceAt : List ℕ → ℕ → ℤ
-priceAt s j = twos 24 (bytesAt s (priceSize * j) priceSize)
+priceAt s j = twos priceWidth (bytesAt s (priceSize * j) priceSize)
 
 abbrev pub pricesFrom : List ℕ → ℕ → ℕ → List ℤ
 pricesFrom s j n = tab (λ i. priceAt s (j + i)) n
@@ -47,24 +43,21 @@ pricesFrom s j n = tab (λ i. priceAt s (j + i)) n
 abbrev pub priceCount : Header → ℕ
 priceCount h = 26 * h .locations
 
--- ---- "Row, 48 bits: market (1), kind (3), interval (4), participant (6), location (6), kW (25), spare (3)"
-
-abbrev pub rowSize : ℕ
-rowSize = 6
+-- ---- "Row, 48 bits: market, kind, interval, participant, location, kW, spare"
 
 abbrev pub rowOf : ℕ → Row
 rowOf v =
     record {
-      market = field 48 v 0 1;
-      kind = field 48 v 1 3;
-      interval = field 48 v 4 4;
-      participant = field 48 v 8 6;
-      location = field 48 v 14 6;
-      kw = record { 0 = field 48 v 20 25 };
+      market = fieldAt rowWidths v 0;
+      kind = fieldAt rowWidths v 1;
+      interval = fieldAt rowWidths v 2;
+      participant = fieldAt rowWidths v 3;
+      location = fieldAt rowWidths v 4;
+      kw = record { 0 = fieldAt rowWidths v 5 };
     }
 
 abbrev pub rowSpare : ℕ → ℕ
-rowSpare v = field 48 v 45 3
+rowSpare v = fieldAt rowWidths v 6
 
 -- row i of a stretch of rows, packed and read, and the first n rows
 abbrev pub packedRow : List ℕ → ℕ → ℕ
@@ -76,31 +69,32 @@ rowAt s i = rowOf (packedRow s i)
 abbrev pub rowsIn : List ℕ → ℕ → List Row
 rowsIn s n = tab (rowAt s) n
 
--- ---- "Transaction, 48 bits: market (1), interval (4), participant (6), source (6), sink (6), kW (25)"
+-- ---- "Transaction: market, interval, participant", seller, "source, sink, kW", spare; in edition 0 seller and spare have no bits, and are 0
 
-abbrev pub transactionSize : ℕ
-transactionSize = 6
-
-abbrev pub transactionOf : ℕ → Transaction
-transactionOf v =
+abbrev pub transactionOf : Edition → ℕ → Transaction
+transactionOf edition v =
     record {
-      market = field 48 v 0 1;
-      interval = field 48 v 1 4;
-      participant = field 48 v 5 6;
-      source = field 48 v 11 6;
-      sink = field 48 v 17 6;
-      kw = record { 0 = field 48 v 23 25 };
+      market = fieldAt (transactionWidths edition) v 0;
+      interval = fieldAt (transactionWidths edition) v 1;
+      participant = fieldAt (transactionWidths edition) v 2;
+      seller = fieldAt (transactionWidths edition) v 3;
+      source = fieldAt (transactionWidths edition) v 4;
+      sink = fieldAt (transactionWidths edition) v 5;
+      kw = record { 0 = fieldAt (transactionWidths edition) v 6 };
     }
 
+abbrev pub transactionSpare : Edition → ℕ → ℕ
+transactionSpare edition v = fieldAt (transactionWidths edition) v 7
+
 -- transaction i of a stretch of transactions, packed and read, and the first n transactions
-abbrev pub packedTransaction : List ℕ → ℕ → ℕ
-packedTransaction s i = bytesAt s (transactionSize * i) transactionSize
+abbrev pub packedTransaction : Edition → List ℕ → ℕ → ℕ
+packedTransaction edition s i = bytesAt s (transactionSize edition * i) (transactionSize edition)
 
-abbrev pub transactionAt : List ℕ → ℕ → Transaction
-transactionAt s i = transactionOf (packedTransaction s i)
+abbrev pub transactionAt : Edition → List ℕ → ℕ → Transaction
+transactionAt edition s i = transactionOf edition (packedTransaction edition s i)
 
-abbrev pub transactionsIn : List ℕ → ℕ → List Transaction
-transactionsIn s n = tab (transactionAt s) n
+abbrev pub transactionsIn : Edition → List ℕ → ℕ → List Transaction
+transactionsIn edition s n = tab (transactionAt edition s) n
 
 -- ---- where prices, rows and transactions start, and where the file ends
 
@@ -112,7 +106,7 @@ placesOf h =
       prices = headerSize;
       rows = rows;
       transactions = transactions;
-      end = transactions + transactionSize * h .transactions;
+      end = transactions + transactionSize (editionOf (h .edition)) * h .transactions;
     }
 
 abbrev pub places : List ℕ → Places
@@ -133,6 +127,9 @@ transactionBytes file = bytesFrom (places file .transactions) (places file .end)
 
 -- ---- the hour that a file holds
 
+abbrev pub editionIn : List ℕ → Edition
+editionIn file = editionOf (header file .edition)
+
 abbrev pub hourOf : List ℕ → Hour
 hourOf file =
     let n = header file .locations in
@@ -144,5 +141,6 @@ hourOf file =
       lossAhead = pricesFrom (priceBytes file) (13 * n) n;
       lossReal = pricesFrom (priceBytes file) (14 * n) (12 * n);
       rows = rowsIn (rowBytes file) (header file .rows);
-      transactions = transactionsIn (transactionBytes file) (header file .transactions);
+      edition = editionIn file;
+      transactions = transactionsIn (editionIn file) (transactionBytes file) (header file .transactions);
     }

@@ -1,4 +1,5 @@
 pub mod Packed
+pub mod Layout
 pub mod File
 pub mod Order
 pub mod Reader
@@ -13,3 +14,4 @@ pub mod CasesLists
 pub mod CasesCause
 pub mod CasesDecoding
 pub mod CasesHour
+pub mod CasesEdition

@@ -1,22 +1,25 @@
 -- The order of refusals of an exercise file and of an hour read from it (document 01, "The exercise file"):
 -- "Order for an hour: 9 under 5 bytes; 9 header spare; 1 counts; 9 length; 1 output lists not as long as the participants; 2 prices; rows in turn (4; 3 participant,
--- location; 2; 9); transactions in turn (4; 3 participant, source, sink; 2); 10; 7." Assumes nothing.
+-- location; 2; 9); transactions in turn (4; 3 participant, source, sink; 2); 10; 7." Document 02, ticket 2: "9 for any other edition; seller 3, after the participant; spare
+-- bits 9, after the kW"; the edition stands in the place of the header's spare bits. Assumes nothing.
 use mathlib.Core.List.{List}
 use Prim.Native.Nat.{ℕ, _*_}
 use lib.Dec.{leb, eqb}
 use lib.ListN.{length}
 use Rattle.ints.specs.Refusal.{unless}
 use Rattle.ints.specs.Turn.{_then_}
-use Rattle.hour.specs.Order.{outputsRefusal, packedRowRefusal, transactionRefusal, contentRefusal, creditsRefusal}
-use Rattle.exercise.specs.File.{headerSize, header, placesOf, rowAt, rowSpare, packedRow, transactionAt, rowBytes, hourOf}
+use Rattle.hour.specs.Order.{Spare, outputsRefusal, packedRowRefusal, packedTransactionRefusal, contentRefusal, creditsRefusal}
+use Rattle.hour.specs.declared.Edition.{Edition}
+use Rattle.exercise.specs.Layout.{headerSize}
+use Rattle.exercise.specs.File.{header, placesOf, rowAt, rowSpare, packedRow, transactionAt, transactionSpare, packedTransaction, rowBytes, transactionBytes, editionIn, hourOf}
 use Rattle.exercise.specs.declared.Header.{Header}
 
 -- ---- to the file's length
 
--- "9 header spare; 1 counts; 9 length". Six bits hold no more than 64 participants and locations
+-- "9 for any other edition; 1 counts; 9 length". Six bits hold no more than 64 participants and locations
 unfoldable pub headerRefusal : Header → ℕ → ℕ
 headerRefusal h bytes =
-    unless (eqb (h .spare) 0) 9
+    unless (leb (h .edition) 1) 9
     (unless (leb (h .rows) 2048) 1
     (unless (leb (h .transactions) 256) 1
     (unless (eqb bytes (placesOf h .end)) 9
@@ -31,14 +34,19 @@ frameRefusal file = unless (leb headerSize (length file)) 9 (headerRefusal (head
 abbrev pub rowRefusalAt : ℕ → ℕ → List ℕ → ℕ → ℕ
 rowRefusalAt participants locations s i = packedRowRefusal participants locations (rowAt s i) (rowSpare (packedRow s i))
 
-abbrev pub transactionRefusalAt : ℕ → ℕ → List ℕ → ℕ → ℕ
-transactionRefusalAt participants locations s i = transactionRefusal participants locations (transactionAt s i)
+abbrev pub transactionRefusalAt : Edition → ℕ → ℕ → List ℕ → ℕ → ℕ
+transactionRefusalAt edition participants locations s i =
+    packedTransactionRefusal participants locations (transactionAt edition s i) (transactionSpare edition (packedTransaction edition s i))
 
 -- ---- the whole order
 
--- the spare bits beside row i
-abbrev pub spareOf : List ℕ → ℕ → ℕ
-spareOf file i = rowSpare (packedRow (rowBytes file) i)
+-- the spare bits beside a row, and beside a transaction
+abbrev pub spareOf : List ℕ → Spare
+spareOf file =
+    record {
+      row = λ i. rowSpare (packedRow (rowBytes file) i);
+      transaction = λ i. transactionSpare (editionIn file) (packedTransaction (editionIn file) (transactionBytes file) i);
+    }
 
 -- "the order .. to its last transaction, output lists aside"; "A separate call answers 0 for such a file, or its refusal."
 abbrev pub fileRefusal : List ℕ → ℕ

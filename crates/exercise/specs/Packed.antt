@@ -1,6 +1,6 @@
 -- Packed fields (document 01, "The exercise file"): "Fields are packed, most significant bit first." Assumes nothing.
-use mathlib.Core.List.{List}
-use Prim.Native.Nat.{ℕ, zero, suc, _+_, _*_, _-_, _/_, _%_, _^_}
+use mathlib.Core.List.{List, [], _∷_}
+use Prim.Native.Nat.{ℕ, zero, suc, _+_, _*_, _/_, _%_, _^_}
 use lib.ListN.{getD}
 
 -- the `size` bytes from byte k on as one number, the first byte highest
@@ -8,6 +8,13 @@ unfoldable pub bytesAt : List ℕ → ℕ → ℕ → ℕ
 bytesAt s k zero = 0
 bytesAt s k (suc size) = 256 * bytesAt s k size + getD s (k + size) 0
 
--- of a number of so many bits: `width` bits, from bit `start` on, where bit 0 is the most significant
-abbrev pub field : ℕ → ℕ → ℕ → ℕ → ℕ
-field bits v start width = v / 2 ^ (bits - start - width) % 2 ^ width
+-- how many bits fields of these widths have together
+abbrev pub bitsIn : List ℕ → ℕ
+bitsIn [] = 0
+bitsIn (width ∷ widths) = width + bitsIn widths
+
+-- field j of a number packed by these widths: the first stands above the bits of the others
+abbrev pub fieldAt : List ℕ → ℕ → ℕ → ℕ
+fieldAt [] v j = 0
+fieldAt (width ∷ widths) v zero = v / 2 ^ bitsIn widths % 2 ^ width
+fieldAt (width ∷ widths) v (suc j) = fieldAt widths v j

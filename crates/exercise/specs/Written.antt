@@ -1,5 +1,5 @@
--- The exercise file that is written (document 02, ticket 1): the bytes of an hour, packed as document 01, "The exercise file", has it. File.antt reads it; the two can be
--- laid side by side. Assumes nothing.
+-- The exercise file that is written (document 02, tickets 1 and 2): the bytes of an hour, packed as document 01, "The exercise file", has it, by the widths of Layout.antt.
+-- File.antt reads it; the two can be laid side by side. Assumes nothing.
 use mathlib.Core.Path.{_≡_}
 use mathlib.Core.List.{List, [], _∷_, _++_}
 use Prim.Native.Nat.{ℕ, zero, suc, _+_, _*_, _-_, _/_, _%_, _^_, _≤_, _<_}
@@ -8,15 +8,22 @@ use lib.ListN.{length}
 use Rattle.ints.specs.Each.{Every}
 use Rattle.ints.specs.Twos.{bitsOf, InBits}
 use Rattle.hour.specs.Hour.{Hour, allPrices}
+use Rattle.hour.specs.declared.Edition.{Edition}
 use Rattle.hour.specs.declared.Row.{Row}
 use Rattle.hour.specs.declared.Transaction.{Transaction}
-use Rattle.exercise.specs.File.{headerSize, priceSize, rowSize, transactionSize}
+use Rattle.exercise.specs.Layout.{headerWidths, headerSize, priceWidth, priceSize, rowWidths, rowSize, transactionWidths, transactionSize, editionNumber}
 
 -- ---- "Fields are packed, most significant bit first."
 
 -- a field: what it holds, and its width in bits
 abbrev pub Field : Type 0
 Field = ℕ × ℕ
+
+-- what fields hold, beside their widths
+abbrev pub inWidths : List ℕ → List ℕ → List Field
+inWidths [] values = []
+inWidths (width ∷ widths) [] = []
+inWidths (width ∷ widths) (value ∷ values) = (value, width) ∷ inWidths widths values
 
 -- fields one after the other as one number; `before` is what those before them make
 abbrev pub packedAfter : ℕ → List Field → ℕ
@@ -36,31 +43,36 @@ unfoldable pub run : {A : Type 0} → ℕ → (A → ℕ) → List A → List �
 run size bits [] = []
 run size bits (x ∷ xs) = bytesHigh size (bits x) ++ run size bits xs
 
--- ---- "Header, 40 bits: participants less 1 (6), locations less 1 (6), rows (12), transactions (10), spare (6)"
+-- ---- "Header: participants less 1, locations less 1, rows, transactions", edition
+
+-- of so many participants, locations, rows and transactions, and the edition of a number
+abbrev pub countFields : ℕ → ℕ → ℕ → ℕ → ℕ → List Field
+countFields p l r t e = inWidths headerWidths ((p - 1) ∷ (l - 1) ∷ r ∷ t ∷ e ∷ [])
 
 abbrev pub headerFields : Hour → List Field
-headerFields hour = (hour .participants - 1, 6) ∷ (hour .locations - 1, 6) ∷ (length (hour .rows), 12) ∷ (length (hour .transactions), 10) ∷ (0, 6) ∷ []
+headerFields hour = countFields (hour .participants) (hour .locations) (length (hour .rows)) (length (hour .transactions)) (editionNumber (hour .edition))
 
 -- ---- "Prices, 24 bits each, two's complement"
 
 abbrev pub priceBits : ℤ → ℕ
-priceBits price = bitsOf 24 price
+priceBits price = bitsOf priceWidth price
 
--- ---- "Row, 48 bits: market (1), kind (3), interval (4), participant (6), location (6), kW (25), spare (3)"
+-- ---- "Row: market, kind, interval, participant, location, kW, spare"
 
 abbrev pub rowFields : Row → List Field
-rowFields row = (row .market, 1) ∷ (row .kind, 3) ∷ (row .interval, 4) ∷ (row .participant, 6) ∷ (row .location, 6) ∷ (row .kw .0, 25) ∷ (0, 3) ∷ []
+rowFields row = inWidths rowWidths (row .market ∷ row .kind ∷ row .interval ∷ row .participant ∷ row .location ∷ row .kw .0 ∷ 0 ∷ [])
 
 abbrev pub rowBits : Row → ℕ
 rowBits row = packed (rowFields row)
 
--- ---- "Transaction, 48 bits: market (1), interval (4), participant (6), source (6), sink (6), kW (25)"
+-- ---- "Transaction: market, interval, participant", seller, "source, sink, kW", spare
 
-abbrev pub transactionFields : Transaction → List Field
-transactionFields t = (t .market, 1) ∷ (t .interval, 4) ∷ (t .participant, 6) ∷ (t .source, 6) ∷ (t .sink, 6) ∷ (t .kw .0, 25) ∷ []
+abbrev pub transactionFields : Edition → Transaction → List Field
+transactionFields edition t =
+    inWidths (transactionWidths edition) (t .market ∷ t .interval ∷ t .participant ∷ t .seller ∷ t .source ∷ t .sink ∷ t .kw .0 ∷ 0 ∷ [])
 
-abbrev pub transactionBits : Transaction → ℕ
-transactionBits t = packed (transactionFields t)
+abbrev pub transactionBits : Edition → Transaction → ℕ
+transactionBits edition t = packed (transactionFields edition t)
 
 -- ---- the file
 
@@ -69,7 +81,7 @@ fileOf hour =
     bytesHigh headerSize (packed (headerFields hour))
     ++ (run priceSize priceBits (allPrices hour)
     ++ (run rowSize rowBits (hour .rows)
-    ++ run transactionSize transactionBits (hour .transactions)))
+    ++ run (transactionSize (hour .edition)) (transactionBits (hour .edition)) (hour .transactions)))
 
 -- ---- an hour that its file's fields can hold, whether or not the reader accepts it (said in a theorem, not in a contract)
 
@@ -86,6 +98,6 @@ pub record FitsFields (hour : Hour) : Type 0 where
   pub congestion-real : length (hour .congestionReal) ≡ 12 * hour .locations
   pub loss-ahead : length (hour .lossAhead) ≡ hour .locations
   pub loss-real : length (hour .lossReal) ≡ 12 * hour .locations
-  pub prices : Every (InBits 24) (allPrices hour)
+  pub prices : Every (InBits priceWidth) (allPrices hour)
   pub rows : Every (λ row. Fit (rowFields row)) (hour .rows)
-  pub transactions : Every (λ t. Fit (transactionFields t)) (hour .transactions)
+  pub transactions : Every (λ t. Fit (transactionFields (hour .edition) t)) (hour .transactions)

@@ -2,13 +2,13 @@
 use hour::Row;
 use hour::Transaction;
 
-// The counts of the header, and its spare bits.
+// The counts of the header, and the number of its edition.
 pub struct Header {
     pub participants: usize,
     pub locations: usize,
     pub rows: usize,
     pub transactions: usize,
-    pub spare: usize,
+    pub edition: usize,
 }
 
 // Where prices, rows and transactions start, and where the file ends.

@@ -5,12 +5,14 @@ ghost use lib.ListN.{length};
 ghost use Rattle.hour.specs.Cause.{priceCause, rowCause, transactionCause, contentCause};
 ghost use Rattle.hour.specs.InsideCause.{firstFrom};
 ghost use Rattle.exercise.specs.Cause.{headerCause, frameCause};
-ghost use Rattle.exercise.specs.File.{priceAt, rowAt, rowSpare, packedRow, transactionAt, hourOf};
-ghost use Rattle.exercise.specs.Inside.{Small};
+ghost use Rattle.exercise.specs.File.{priceAt, rowAt, rowSpare, packedRow, transactionAt, transactionSpare, packedTransaction, hourOf};
+ghost use Rattle.exercise.specs.Inside.{Small, itemSize};
+ghost use Rattle.exercise.specs.Layout.{transactionSize};
 ghost use Rattle.exercise.specs.Order.{frameRefusal, spareOf};
 ghost use Rattle.exercise_cause.specs.Inside.{causeAt};
 use exercise::Header;
 use hour::Cause;
+use hour::Edition;
 
 // ---- the header and the length
 
@@ -21,7 +23,7 @@ fn header_cause(header: Header, bytes: usize) -> Cause
 {
     let end = exercise_file::places_of(header).end as i64;
     hour_cause::first_of(
-        hour_cause::tested(9, 2, 0, 4, numbers::from_word(header.spare as u64), 0, 0),
+        hour_cause::tested(9, 2, 0, 4, numbers::from_word(header.edition as u64), 0, 1),
         hour_cause::first_of(
             hour_cause::tested(1, 2, 0, 2, numbers::from_word(header.rows as u64), 0, 2048),
             hour_cause::first_of(
@@ -52,7 +54,7 @@ pub fn frame_cause(file: &[u8]) -> Cause
             field: 0,
             found: numbers::from_word(file.len() as u64),
             least: 83,
-            most: 18821,
+            most: 19077,
         };
     }
     header_cause(exercise_file::read_header(file), file.len())
@@ -100,12 +102,18 @@ fn row_cause(participants: u64, locations: u64, rows: &[u8], i: usize) -> Cause
 }
 
 // Transaction i of a stretch of transactions.
-fn transaction_cause(participants: u64, locations: u64, transactions: &[u8], i: usize) -> Cause
-    requires { ⌜ (6 * i + 6 ≤ length (now transactions)) × (i ≤ 4095) ⌝ }
+fn transaction_cause(
+    edition: Edition,
+    participants: u64,
+    locations: u64,
+    transactions: &[u8],
+    i: usize,
+) -> Cause
+    requires { ⌜ (transactionSize edition * i + transactionSize edition ≤ length (now transactions)) × (i ≤ 4095) ⌝ }
     requires { ⌜ (1 ≤ participants) × (participants ≤ 64) × (1 ≤ locations) × (locations ≤ 64) ⌝ }
-    ensures { λ r. ⌜ r ≡ transactionCause participants locations i (transactionAt (now (transactions .entry)) i) ⌝ }
+    ensures { λ r. ⌜ r ≡ transactionCause participants locations i (transactionAt edition (now (transactions .entry)) i) (transactionSpare edition (packedTransaction edition (now (transactions .entry)) i)) ⌝ }
 {
-    let transaction = exercise_rows::read_transaction(transactions, i);
+    let transaction = exercise_rows::read_transaction(edition, transactions, i);
     hour_cause::transaction_cause(
         participants,
         locations,
@@ -113,26 +121,29 @@ fn transaction_cause(participants: u64, locations: u64, transactions: &[u8], i: 
         transaction.market as u64,
         transaction.interval as u64,
         transaction.participant as u64,
+        transaction.seller as u64,
         transaction.source as u64,
         transaction.sink as u64,
         transaction.kw.0 as u64,
+        exercise_rows::transaction_spare(edition, transactions, i),
     )
 }
 
 // Either of them.
 fn cause_at(
     transactions: bool,
+    edition: Edition,
     participants: u64,
     locations: u64,
     stretch: &[u8],
     i: usize,
 ) -> Cause
-    requires { ⌜ (6 * i + 6 ≤ length (now stretch)) × (i ≤ 4095) ⌝ }
+    requires { ⌜ (itemSize transactions edition * i + itemSize transactions edition ≤ length (now stretch)) × (i ≤ 4095) ⌝ }
     requires { ⌜ (1 ≤ participants) × (participants ≤ 64) × (1 ≤ locations) × (locations ≤ 64) ⌝ }
-    ensures { λ r. ⌜ r ≡ causeAt transactions participants locations (now (stretch .entry)) i ⌝ }
+    ensures { λ r. ⌜ r ≡ causeAt transactions edition participants locations (now (stretch .entry)) i ⌝ }
 {
     if transactions {
-        return transaction_cause(participants, locations, stretch, i);
+        return transaction_cause(edition, participants, locations, stretch, i);
     }
     row_cause(participants, locations, stretch, i)
 }
@@ -140,18 +151,19 @@ fn cause_at(
 // The first n of them.
 fn first_cause(
     transactions: bool,
+    edition: Edition,
     participants: u64,
     locations: u64,
     stretch: &[u8],
     n: usize,
 ) -> Cause
-    requires { ⌜ (6 * n ≤ length (now stretch)) × (n ≤ 4095) ⌝ }
+    requires { ⌜ (itemSize transactions edition * n ≤ length (now stretch)) × (n ≤ 4095) ⌝ }
     requires { ⌜ (1 ≤ participants) × (participants ≤ 64) × (1 ≤ locations) × (locations ≤ 64) ⌝ }
-    ensures { λ r. ⌜ r ≡ firstFrom (causeAt transactions participants locations (now (stretch .entry))) 0 n ⌝ }
+    ensures { λ r. ⌜ r ≡ firstFrom (causeAt transactions edition participants locations (now (stretch .entry))) 0 n ⌝ }
 {
     let mut i: usize = 0;
     while i < n {
-        let cause = cause_at(transactions, participants, locations, stretch, i);
+        let cause = cause_at(transactions, edition, participants, locations, stretch, i);
         if cause.refusal != 0 {
             return cause;
         }
@@ -175,11 +187,13 @@ pub fn content_cause(file: &[u8]) -> Cause
     let end = places.end;
     let participants = header.participants as u64;
     let locations = header.locations as u64;
+    let edition = exercise_editions::edition_of(header.edition as u64);
     hour_cause::first_of(
         prices_cause(&file[prices_at..rows_at], 26 * header.locations),
         hour_cause::first_of(
             first_cause(
                 false,
+                Edition::PathOnly,
                 participants,
                 locations,
                 &file[rows_at..transactions_at],
@@ -187,6 +201,7 @@ pub fn content_cause(file: &[u8]) -> Cause
             ),
             first_cause(
                 true,
+                edition,
                 participants,
                 locations,
                 &file[transactions_at..end],

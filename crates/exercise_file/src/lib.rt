@@ -29,7 +29,7 @@ fn header_of(v: u64) -> Header
         locations: (v / 268435456 % 64 + 1) as usize,
         rows: (v / 65536 % 4096) as usize,
         transactions: (v / 64 % 1024) as usize,
-        spare: (v / 1 % 64) as usize,
+        edition: (v / 1 % 64) as usize,
     }
 }
 
@@ -58,11 +58,13 @@ pub fn places_of(header: Header) -> Places
 {
     let rows = 5 + 3 * (26 * header.locations);
     let transactions = rows + 6 * header.rows;
+    let edition = exercise_editions::edition_of(header.edition as u64);
+    let size = exercise_editions::transaction_size(edition);
     Places {
         prices: 5,
         rows,
         transactions,
-        end: transactions + 6 * header.transactions,
+        end: transactions + size * header.transactions,
     }
 }
 
@@ -71,7 +73,7 @@ fn header_refusal(header: Header, bytes: usize) -> u32
     requires { ⌜ Small header ⌝ }
     ensures { λ r. ⌜ r ≡ headerRefusal header bytes ⌝ }
 {
-    if header.spare != 0 {
+    if header.edition > 1 {
         return 9;
     }
     if header.rows > 2048 {
@@ -121,6 +123,7 @@ pub fn content_refusal(file: &[u8]) -> u32
         return refusal;
     }
     exercise_rows::transactions_refusal(
+        exercise_editions::edition_of(header.edition as u64),
         header.participants,
         header.locations,
         &file[transactions_at..end],

@@ -5,9 +5,10 @@ use Prim.Native.Nat.{ℕ}
 use Rattle.ints.specs.Refusal.{pick}
 use Rattle.hour.specs.Cause.{rowCause, transactionCause}
 use Rattle.hour.specs.declared.Cause.{Cause}
+use Rattle.hour.specs.declared.Edition.{Edition}
 use Rattle.exercise.specs.Lists.{rowGiven, transactionGiven}
 
--- transaction i of a list of transactions, or row i of a list of rows
-abbrev pub causeGiven : Bool → ℕ → ℕ → List ℕ → ℕ → Cause
-causeGiven transactions participants locations list i =
-    pick transactions (transactionCause participants locations i (transactionGiven list i)) (rowCause participants locations i (rowGiven list i) 0)
+-- transaction i of a list of transactions, or row i of a list of rows, which are alike in both editions; neither has spare bits
+abbrev pub causeGiven : Bool → Edition → ℕ → ℕ → List ℕ → ℕ → Cause
+causeGiven transactions edition participants locations list i =
+    pick transactions (transactionCause participants locations i (transactionGiven edition list i) 0) (rowCause participants locations i (rowGiven list i) 0)

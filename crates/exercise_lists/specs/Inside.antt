@@ -6,6 +6,7 @@ use Rattle.ints.specs.Refusal.{pick}
 use Rattle.ints.specs.Turn.{inTurn}
 use Rattle.numbers.specs.Bytes.{numberAt}
 use Rattle.hour.specs.Order.{rowRefusal, transactionRefusal}
+use Rattle.hour.specs.declared.Edition.{Edition}
 use Rattle.exercise.specs.Inside.{priceRefusal}
 use Rattle.exercise.specs.Lists.{rowGiven, transactionGiven}
 
@@ -14,6 +15,6 @@ abbrev pub pricesGivenRefusal : List ℕ → ℕ → ℕ
 pricesGivenRefusal list n = inTurn (λ j. priceRefusal (numberAt list j)) n
 
 -- transaction i of a list of transactions, or row i of a list of rows
-abbrev pub refusalGiven : Bool → ℕ → ℕ → List ℕ → ℕ → ℕ
-refusalGiven transactions participants locations list i =
-    pick transactions (transactionRefusal participants locations (transactionGiven list i)) (rowRefusal participants locations (rowGiven list i))
+abbrev pub refusalGiven : Bool → Edition → ℕ → ℕ → List ℕ → ℕ → ℕ
+refusalGiven transactions edition participants locations list i =
+    pick transactions (transactionRefusal participants locations (transactionGiven edition list i)) (rowRefusal participants locations (rowGiven list i))

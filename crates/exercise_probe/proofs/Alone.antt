@@ -10,7 +10,8 @@ use Rattle.ints.specs.Refusal.{unless}
 use Rattle.ints.specs.Turn.{_then_}
 use Rattle.ints.proofs.Turns.{then-ends, then-follows, answer-accepted, answer-number, answer-taken}
 use Rattle.exercise.specs.Decoding.{givenRefusal, decodedRow, decodedRowRefusal, rowAnswer}
-use Rattle.exercise.specs.File.{rowSize, rowAt}
+use Rattle.exercise.specs.File.{rowAt}
+use Rattle.exercise.specs.Layout.{rowSize}
 use Rattle.exercise.specs.Order.{rowRefusalAt}
 use Rattle.exercise.specs.declared.DecodedRow.{DecodedRow}
 use Rattle.exercise.specs.declared.DecodedRow.the-variants as DecodedRow

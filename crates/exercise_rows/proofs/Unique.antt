@@ -19,6 +19,7 @@ use Rattle.exercise_rows.proofs.rows_refusal.Reads as rows-refusal
 use Rattle.exercise_rows.proofs.three_at.Reads as three-at
 use Rattle.exercise_rows.proofs.transaction_at.Reads as transaction-at
 use Rattle.exercise_rows.proofs.decoded_transaction_refusal.Reads as decoded-transaction-refusal
+use Rattle.exercise_rows.proofs.transaction_spare.Reads as transaction-spare
 use Rattle.exercise_rows.proofs.transactions_refusal.Reads as transactions-refusal
 
 pub read-row-unique : (κs : Lfts 1) (a : _) (r s : Row) (e f : _) → read-row.Post κs a r e → read-row.Post κs a s f → r ≡ s
@@ -56,3 +57,6 @@ decode-transaction-unique κs a r s e f p q = unique p q
 
 pub row-spare-unique : (κs : Lfts 1) (a : _) (r s : ℕ) (e f : _) → row-spare.Post κs a r e → row-spare.Post κs a s f → r ≡ s
 row-spare-unique κs a r s e f p q = unique p q
+
+pub transaction-spare-unique : (κs : Lfts 1) (a : _) (r s : ℕ) (e f : _) → transaction-spare.Post κs a r e → transaction-spare.Post κs a s f → r ≡ s
+transaction-spare-unique κs a r s e f p q = unique p q

@@ -1,15 +1,20 @@
-// The rows and transactions of the exercise file (document 01, "The exercise file"), six packed bytes each: decoded, one by one and in turn.
+// The rows and transactions of the exercise file (document 01, "The exercise file"), six packed bytes each, and transactions with a seller seven: decoded, one by one and in
+// turn.
 ghost use mathlib.Core.Path.{_≡_};
 ghost use Prim.Native.Nat.{_+_, _*_, _≤_, _<_};
 ghost use lib.ListN.{length};
 ghost use Rattle.ints.specs.Turn.{inTurn};
 ghost use Rattle.exercise.specs.Packed.{bytesAt};
-ghost use Rattle.exercise.specs.File.{rowOf, rowAt, rowSpare, packedRow, transactionOf, transactionAt};
+ghost use Rattle.hour.specs.declared.Edition.the-variants as Edition;
+ghost use Rattle.exercise.specs.File.{rowOf, rowAt, rowSpare, packedRow, transactionOf, transactionAt, transactionSpare, packedTransaction};
+ghost use Rattle.exercise.specs.Layout.{transactionSize};
+ghost use Rattle.exercise.specs.Order.{transactionRefusalAt};
 ghost use Rattle.exercise.specs.Decoding.{decodedRowRefusal, decodedTransactionRefusal, givenRefusal, decodedRow, decodedTransaction};
 ghost use Rattle.exercise_rows.specs.Inside.{refusalAt, aloneRefusal};
-ghost use Rattle.exercise.specs.Inside.{decodedRowAt, decodedTransactionAt, rowsInRefusal, transactionsInRefusal};
+ghost use Rattle.exercise.specs.Inside.{itemSize, decodedRowAt, decodedTransactionAt, rowsInRefusal, transactionsInRefusal};
 use exercise::DecodedRow;
 use exercise::DecodedTransaction;
+use hour::Edition;
 use hour::Row;
 use hour::Transaction;
 use units::Kw;
@@ -22,7 +27,7 @@ pub fn three_at(s: &[u8], k: usize) -> u64
     65536 * ints::wide(s[k]) + 256 * ints::wide(s[k + 1]) + ints::wide(s[k + 2])
 }
 
-// The two, four and six bytes from k on, the first highest. In twos, so that they are read as words.
+// The two, four, six and seven bytes from k on, the first highest. In twos, so that they are read as words.
 fn two_at(s: &[u8], k: usize) -> u64
     requires { ⌜ k + 2 ≤ length (now s) ⌝ }
     ensures { λ r. ⌜ r ≡ bytesAt (now (s .entry)) k 2 × (r < 65536) ⌝ }
@@ -39,9 +44,16 @@ fn four_at(s: &[u8], k: usize) -> u64
 
 fn six_at(s: &[u8], k: usize) -> u64
     requires { ⌜ k + 6 ≤ length (now s) ⌝ }
-    ensures { λ r. ⌜ r ≡ bytesAt (now (s .entry)) k 6 ⌝ }
+    ensures { λ r. ⌜ r ≡ bytesAt (now (s .entry)) k 6 × (r < 281474976710656) ⌝ }
 {
     65536 * four_at(s, k) + two_at(s, k + 4)
+}
+
+fn seven_at(s: &[u8], k: usize) -> u64
+    requires { ⌜ k + 7 ≤ length (now s) ⌝ }
+    ensures { λ r. ⌜ r ≡ bytesAt (now (s .entry)) k 7 ⌝ }
+{
+    256 * six_at(s, k) + ints::wide(s[k + 6])
 }
 
 // ---- rows
@@ -102,40 +114,101 @@ pub fn decoded_row_refusal(decoded: DecodedRow) -> u32
 
 // ---- transactions
 
-// The transaction of 48 bits.
-fn transaction_of(v: u64) -> Transaction
-    ensures { λ r. ⌜ r ≡ transactionOf v ⌝ }
+// Transaction i of a stretch of transactions, packed.
+fn packed_transaction(edition: Edition, transactions: &[u8], i: usize) -> u64
+    requires { ⌜ transactionSize edition * i + transactionSize edition ≤ length (now transactions) ⌝ }
+    ensures { λ r. ⌜ r ≡ packedTransaction edition (now (transactions .entry)) i ⌝ }
+{
+    match edition {
+        Edition::PathOnly => six_at(transactions, 6 * i),
+        Edition::WithSeller => seven_at(transactions, 7 * i),
+    }
+}
+
+// The transaction of 48 bits, a path alone: it has no seller.
+fn path_of(v: u64) -> Transaction
+    ensures { λ r. ⌜ r ≡ transactionOf Edition.PathOnly v ⌝ }
 {
     Transaction {
         market: (v / 140737488355328 % 2) as u8,
         interval: (v / 8796093022208 % 16) as u8,
         participant: (v / 137438953472 % 64) as u8,
+        seller: 0,
         source: (v / 2147483648 % 64) as u16,
         sink: (v / 33554432 % 64) as u16,
         kw: Kw((v / 1 % 33554432) as u32),
     }
 }
 
-// Transaction i of a stretch of transactions, as it stands there.
-pub fn read_transaction(transactions: &[u8], i: usize) -> Transaction
-    requires { ⌜ 6 * i + 6 ≤ length (now transactions) ⌝ }
-    ensures { λ r. ⌜ r ≡ transactionAt (now (transactions .entry)) i ⌝ }
+// The transaction of 56 bits, with its seller.
+fn sale_of(v: u64) -> Transaction
+    ensures { λ r. ⌜ r ≡ transactionOf Edition.WithSeller v ⌝ }
 {
-    transaction_of(six_at(transactions, 6 * i))
+    Transaction {
+        market: (v / 36028797018963968 % 2) as u8,
+        interval: (v / 2251799813685248 % 16) as u8,
+        participant: (v / 35184372088832 % 64) as u8,
+        seller: (v / 549755813888 % 64) as u8,
+        source: (v / 8589934592 % 64) as u16,
+        sink: (v / 134217728 % 64) as u16,
+        kw: Kw((v / 4 % 33554432) as u32),
+    }
+}
+
+fn transaction_of(edition: Edition, v: u64) -> Transaction
+    ensures { λ r. ⌜ r ≡ transactionOf edition v ⌝ }
+{
+    match edition {
+        Edition::PathOnly => path_of(v),
+        Edition::WithSeller => sale_of(v),
+    }
+}
+
+// Its spare bits; a path alone has none.
+fn spare_of(edition: Edition, v: u64) -> u64
+    ensures { λ r. ⌜ r ≡ transactionSpare edition v ⌝ }
+{
+    match edition {
+        Edition::PathOnly => 0,
+        Edition::WithSeller => v / 1 % 4,
+    }
+}
+
+// Transaction i of a stretch of transactions, as it stands there.
+pub fn read_transaction(edition: Edition, transactions: &[u8], i: usize) -> Transaction
+    requires { ⌜ transactionSize edition * i + transactionSize edition ≤ length (now transactions) ⌝ }
+    ensures { λ r. ⌜ r ≡ transactionAt edition (now (transactions .entry)) i ⌝ }
+{
+    transaction_of(edition, packed_transaction(edition, transactions, i))
+}
+
+// Its spare bits.
+pub fn transaction_spare(edition: Edition, transactions: &[u8], i: usize) -> u64
+    requires { ⌜ transactionSize edition * i + transactionSize edition ≤ length (now transactions) ⌝ }
+    ensures { λ r. ⌜ r ≡ transactionSpare edition (packedTransaction edition (now (transactions .entry)) i) ⌝ }
+{
+    spare_of(edition, packed_transaction(edition, transactions, i))
 }
 
 // The same, tested.
 pub fn transaction_at(
+    edition: Edition,
     participants: usize,
     locations: usize,
     transactions: &[u8],
     i: usize,
 ) -> DecodedTransaction
-    requires { ⌜ 6 * i + 6 ≤ length (now transactions) ⌝ }
-    ensures { λ r. ⌜ r ≡ decodedTransactionAt participants locations (now (transactions .entry)) i ⌝ }
+    requires { ⌜ transactionSize edition * i + transactionSize edition ≤ length (now transactions) ⌝ }
+    ensures { λ r. ⌜ r ≡ decodedTransactionAt edition participants locations (now (transactions .entry)) i ⌝ }
 {
-    let transaction = read_transaction(transactions, i);
-    let refusal = hour_row_refusals::transaction_refusal(participants, locations, transaction);
+    let v = packed_transaction(edition, transactions, i);
+    let transaction = transaction_of(edition, v);
+    let refusal = hour_row_refusals::packed_transaction_refusal(
+        participants,
+        locations,
+        transaction,
+        spare_of(edition, v),
+    );
     if refusal != 0 {
         return DecodedTransaction::Refused(refusal);
     }
@@ -154,19 +227,41 @@ pub fn decoded_transaction_refusal(decoded: DecodedTransaction) -> u32
 
 // ---- refusals of rows, or of transactions, in turn
 
+// The refusal of transaction i of a stretch, 0 where there is none. It is tested here by itself, so that `transaction_at` has one
+// caller, the loop that charges, and becomes part of it.
+fn transaction_refusal(
+    edition: Edition,
+    participants: usize,
+    locations: usize,
+    transactions: &[u8],
+    i: usize,
+) -> u32
+    requires { ⌜ transactionSize edition * i + transactionSize edition ≤ length (now transactions) ⌝ }
+    ensures { λ r. ⌜ r ≡ transactionRefusalAt edition participants locations (now (transactions .entry)) i ⌝ }
+{
+    let v = packed_transaction(edition, transactions, i);
+    hour_row_refusals::packed_transaction_refusal(
+        participants,
+        locations,
+        transaction_of(edition, v),
+        spare_of(edition, v),
+    )
+}
+
 // The refusal of row i of a stretch, or of transaction i; 0 where there is none.
 fn refusal_at(
     transactions: bool,
+    edition: Edition,
     participants: usize,
     locations: usize,
     stretch: &[u8],
     i: usize,
 ) -> u32
-    requires { ⌜ 6 * i + 6 ≤ length (now stretch) ⌝ }
-    ensures { λ r. ⌜ r ≡ refusalAt transactions participants locations (now (stretch .entry)) i ⌝ }
+    requires { ⌜ itemSize transactions edition * i + itemSize transactions edition ≤ length (now stretch) ⌝ }
+    ensures { λ r. ⌜ r ≡ refusalAt transactions edition participants locations (now (stretch .entry)) i ⌝ }
 {
     if transactions {
-        return decoded_transaction_refusal(transaction_at(participants, locations, stretch, i));
+        return transaction_refusal(edition, participants, locations, stretch, i);
     }
     decoded_row_refusal(row_at(participants, locations, stretch, i))
 }
@@ -174,17 +269,18 @@ fn refusal_at(
 // The refusal of the first n of a stretch in turn; 0 where there is none.
 fn refusal_in_turn(
     transactions: bool,
+    edition: Edition,
     participants: usize,
     locations: usize,
     stretch: &[u8],
     n: usize,
 ) -> u32
-    requires { ⌜ 6 * n ≤ length (now stretch) ⌝ }
-    ensures { λ r. ⌜ r ≡ inTurn (refusalAt transactions participants locations (now (stretch .entry))) n ⌝ }
+    requires { ⌜ itemSize transactions edition * n ≤ length (now stretch) ⌝ }
+    ensures { λ r. ⌜ r ≡ inTurn (refusalAt transactions edition participants locations (now (stretch .entry))) n ⌝ }
 {
     let mut i: usize = 0;
     while i < n {
-        let refusal = refusal_at(transactions, participants, locations, stretch, i);
+        let refusal = refusal_at(transactions, edition, participants, locations, stretch, i);
         if refusal != 0 {
             return refusal;
         }
@@ -193,25 +289,26 @@ fn refusal_in_turn(
     0
 }
 
-// The same of rows.
+// The same of rows, which both editions have alike.
 pub fn rows_refusal(participants: usize, locations: usize, rows: &[u8], n: usize) -> u32
     requires { ⌜ 6 * n ≤ length (now rows) ⌝ }
     ensures { λ r. ⌜ r ≡ rowsInRefusal participants locations (now (rows .entry)) n ⌝ }
 {
-    refusal_in_turn(false, participants, locations, rows, n)
+    refusal_in_turn(false, Edition::PathOnly, participants, locations, rows, n)
 }
 
 // The same of transactions.
 pub fn transactions_refusal(
+    edition: Edition,
     participants: usize,
     locations: usize,
     transactions: &[u8],
     n: usize,
 ) -> u32
-    requires { ⌜ 6 * n ≤ length (now transactions) ⌝ }
-    ensures { λ r. ⌜ r ≡ transactionsInRefusal participants locations (now (transactions .entry)) n ⌝ }
+    requires { ⌜ transactionSize edition * n ≤ length (now transactions) ⌝ }
+    ensures { λ r. ⌜ r ≡ transactionsInRefusal edition participants locations (now (transactions .entry)) n ⌝ }
 {
-    refusal_in_turn(true, participants, locations, transactions, n)
+    refusal_in_turn(true, edition, participants, locations, transactions, n)
 }
 
 // ---- one row, or one transaction, by itself
@@ -233,15 +330,23 @@ fn given_refusal(participants: i64, locations: i64, bytes: usize, size: usize) -
 }
 
 // The refusal of a row, or a transaction, by itself; 0 where there is none.
-fn alone_refusal(transactions: bool, participants: i64, locations: i64, bytes: &[u8]) -> u32
-    ensures { λ r. ⌜ r ≡ aloneRefusal transactions participants locations (now (bytes .entry)) ⌝ }
+fn alone_refusal(
+    transactions: bool,
+    edition: Edition,
+    participants: i64,
+    locations: i64,
+    bytes: &[u8],
+) -> u32
+    ensures { λ r. ⌜ r ≡ aloneRefusal transactions edition participants locations (now (bytes .entry)) ⌝ }
 {
-    let refusal = given_refusal(participants, locations, bytes.len(), 6);
+    let size = exercise_editions::item_size(transactions, edition);
+    let refusal = given_refusal(participants, locations, bytes.len(), size);
     if refusal != 0 {
         return refusal;
     }
     refusal_at(
         transactions,
+        edition,
         participants as usize,
         locations as usize,
         bytes,
@@ -253,24 +358,25 @@ fn alone_refusal(transactions: bool, participants: i64, locations: i64, bytes: &
 pub fn decode_row(participants: i64, locations: i64, row: &[u8]) -> DecodedRow
     ensures { λ r. ⌜ r ≡ decodedRow participants locations (now (row .entry)) ⌝ }
 {
-    let refusal = alone_refusal(false, participants, locations, row);
+    let refusal = alone_refusal(false, Edition::PathOnly, participants, locations, row);
     if refusal != 0 {
         return DecodedRow::Refused(refusal);
     }
     DecodedRow::Decoded(read_row(row, 0))
 }
 
-// One transaction of six bytes.
+// One transaction, of six bytes or seven.
 pub fn decode_transaction(
+    edition: Edition,
     participants: i64,
     locations: i64,
     transaction: &[u8],
 ) -> DecodedTransaction
-    ensures { λ r. ⌜ r ≡ decodedTransaction participants locations (now (transaction .entry)) ⌝ }
+    ensures { λ r. ⌜ r ≡ decodedTransaction edition participants locations (now (transaction .entry)) ⌝ }
 {
-    let refusal = alone_refusal(true, participants, locations, transaction);
+    let refusal = alone_refusal(true, edition, participants, locations, transaction);
     if refusal != 0 {
         return DecodedTransaction::Refused(refusal);
     }
-    DecodedTransaction::Decoded(read_transaction(transaction, 0))
+    DecodedTransaction::Decoded(read_transaction(edition, transaction, 0))
 }

@@ -16,7 +16,7 @@ use Rattle.exercise.specs.Written.{bytesHigh, run, priceBits}
 use Rattle.exercise.proofs.Packing.{length-high}
 use Rattle.exercise.proofs.Runs.{length-run, run-append, run-one}
 
--- ---- three bytes, six, and five
+-- ---- three bytes, six, seven, and five
 
 high-three : (v : ℕ) → bytesHigh 3 v ≡ v / 65536 % 256 ∷ v / 256 % 256 ∷ v % 256 ∷ []
 unfolding bytesHigh
@@ -48,6 +48,14 @@ pub grouped-stores : (l : List ℕ) (k m n v : ℕ) → sets (sets l k (bytesHig
 grouped-stores l k m n v =
     ap (λ (j : ℕ). sets (sets l k (bytesHigh m (v / 256 ^ n))) (k + j) (bytesHigh n v)) (sym (length-high m (v / 256 ^ n)))
     ∙ sets-more l k (bytesHigh m (v / 256 ^ n)) (bytesHigh n v) ∙ ap (sets l k) (sym (high-grouped m n v))
+
+high-one : (v : ℕ) → bytesHigh 1 v ≡ v % 256 ∷ []
+unfolding bytesHigh
+high-one v = refl
+
+-- seven: six, and one of its own
+pub seven-stores : (l : List ℕ) (k v : ℕ) → set (sets l k (bytesHigh 6 (v / 256))) (k + 6) (v % 256) ≡ sets l k (bytesHigh 7 v)
+seven-stores l k v = ap (sets (sets l k (bytesHigh 6 (v / 256))) (k + 6)) (sym (high-one v)) ∙ grouped-stores l k 6 1 v
 
 high-two : (v : ℕ) → bytesHigh 2 v ≡ v / 256 % 256 ∷ v % 256 ∷ []
 unfolding bytesHigh

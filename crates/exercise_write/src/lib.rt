@@ -1,4 +1,4 @@
-// The exercise file, written from lists of numbers, eight bytes a number (document 02, ticket 1).
+// The exercise file, written from lists of numbers, eight bytes a number (document 02, tickets 1 and 2).
 ghost use mathlib.Core.Path.{_≡_};
 ghost use Prim.Native.Nat.{_+_, _*_, _≤_};
 ghost use lib.IntN.{pos};
@@ -6,14 +6,16 @@ ghost use lib.ListN.{length};
 ghost use lib.Seq.{sets};
 ghost use Rattle.ints.specs.Table.{tab};
 ghost use Rattle.numbers.specs.Bytes.{numberAt};
-ghost use Rattle.exercise.specs.Inside.{headerBits};
-ghost use Rattle.exercise.specs.Lists.{content, hourGiven, rowGiven, transactionGiven, writeRefusal, writeOutcome};
+ghost use Rattle.hour.specs.declared.Edition.the-variants.{PathOnly, WithSeller};
+ghost use Rattle.exercise.specs.Inside.{headerBits, itemSize, itemLength};
+ghost use Rattle.exercise.specs.Lists.{content, hourGiven, rowGiven, transactionLength, transactionGiven, writeRefusal, writeOutcome};
 ghost use Rattle.exercise.specs.Written.{packed, bytesHigh, run, priceBits, rowFields, transactionFields, fileOf, Fit};
 ghost use Rattle.exercise_write.specs.Inside.{fieldsGiven, FieldsFit, PricesFit, HeaderFits, Ready};
+use hour::Edition;
 
 // ---- bytes, the highest first
 
-// The three, and the six, lowest bytes of a number, from place k on.
+// The three, six, and seven lowest bytes of a number, from place k on.
 fn put_three(out: &mut [u8], k: usize, v: u64)
     requires { ⌜ k + 3 ≤ length (now out) ⌝ }
     ensures { λ _. ⌜ now (out .exit) ≡ sets (now (out .entry)) k (bytesHigh 3 v) ⌝ }
@@ -31,15 +33,42 @@ fn put_six(out: &mut [u8], k: usize, v: u64)
     put_three(out, k + 3, v);
 }
 
+fn put_seven(out: &mut [u8], k: usize, v: u64)
+    requires { ⌜ k + 7 ≤ length (now out) ⌝ }
+    ensures { λ _. ⌜ now (out .exit) ≡ sets (now (out .entry)) k (bytesHigh 7 v) ⌝ }
+{
+    put_six(out, k, v / 256);
+    out[k + 6] = (v % 256) as u8;
+}
+
+// As many as an item has, six or seven.
+fn put_item(out: &mut [u8], k: usize, size: usize, v: u64)
+    requires { ⌜ (k + size ≤ length (now out)) × (6 ≤ size) × (size ≤ 7) ⌝ }
+    ensures { λ _. ⌜ now (out .exit) ≡ sets (now (out .entry)) k (bytesHigh size v) ⌝ }
+{
+    if size == 7 {
+        put_seven(out, k, v);
+    } else {
+        put_six(out, k, v);
+    }
+}
+
 // ---- the header
 
-fn header_bits(participants: usize, locations: usize, rows: usize, transactions: usize) -> u64
-    requires { ⌜ HeaderFits participants locations rows transactions ⌝ }
-    ensures { λ r. ⌜ r ≡ headerBits participants locations rows transactions ⌝ }
+fn header_bits(
+    participants: usize,
+    locations: usize,
+    rows: usize,
+    transactions: usize,
+    edition: usize,
+) -> u64
+    requires { ⌜ HeaderFits participants locations rows transactions edition ⌝ }
+    ensures { λ r. ⌜ r ≡ headerBits participants locations rows transactions edition ⌝ }
 {
     ((((participants as u64 - 1) * 64 + (locations as u64 - 1)) * 4096 + rows as u64) * 1024
         + transactions as u64)
         * 64
+        + edition as u64
 }
 
 fn put_header(
@@ -48,11 +77,12 @@ fn put_header(
     locations: usize,
     rows: usize,
     transactions: usize,
+    edition: usize,
 )
-    requires { ⌜ (5 ≤ length (now out)) × HeaderFits participants locations rows transactions ⌝ }
-    ensures { λ _. ⌜ now (out .exit) ≡ sets (now (out .entry)) 0 (bytesHigh 5 (headerBits participants locations rows transactions)) ⌝ }
+    requires { ⌜ (5 ≤ length (now out)) × HeaderFits participants locations rows transactions edition ⌝ }
+    ensures { λ _. ⌜ now (out .exit) ≡ sets (now (out .entry)) 0 (bytesHigh 5 (headerBits participants locations rows transactions edition)) ⌝ }
 {
-    let v = header_bits(participants, locations, rows, transactions);
+    let v = header_bits(participants, locations, rows, transactions, edition);
     out[0] = (v / 4294967296 % 256) as u8;
     out[1] = (v / 16777216 % 256) as u8;
     put_three(out, 2, v);
@@ -90,10 +120,10 @@ fn row_bits(list: &[u8], i: usize) -> u64
         * 8
 }
 
-// Transaction i.
-fn transaction_bits(list: &[u8], i: usize) -> u64
-    requires { ⌜ (48 * i + 48 ≤ length (now list)) × Fit (transactionFields (transactionGiven (now list) i)) ⌝ }
-    ensures { λ r. ⌜ r ≡ packed (transactionFields (transactionGiven (now (list .entry)) i)) ⌝ }
+// Transaction i, where it is a path alone.
+fn path_bits(list: &[u8], i: usize) -> u64
+    requires { ⌜ (48 * i + 48 ≤ length (now list)) × Fit (transactionFields PathOnly (transactionGiven PathOnly (now list) i)) ⌝ }
+    ensures { λ r. ⌜ r ≡ packed (transactionFields PathOnly (transactionGiven PathOnly (now (list .entry)) i)) ⌝ }
 {
     ((((numbers::word_at(list, 6 * i) * 16 + numbers::word_at(list, 6 * i + 1)) * 64
         + numbers::word_at(list, 6 * i + 2))
@@ -105,25 +135,60 @@ fn transaction_bits(list: &[u8], i: usize) -> u64
         + numbers::word_at(list, 6 * i + 5)
 }
 
-// Row i of a list of rows, or transaction i of a list of transactions.
-fn packed_at(transactions: bool, list: &[u8], i: usize) -> u64
-    requires { ⌜ (48 * i + 48 ≤ length (now list)) × Fit (fieldsGiven transactions (now list) i) ⌝ }
-    ensures { λ r. ⌜ r ≡ packed (fieldsGiven transactions (now (list .entry)) i) ⌝ }
+// Transaction i with its seller, as 56 bits.
+fn sale_bits(list: &[u8], i: usize) -> u64
+    requires { ⌜ (56 * i + 56 ≤ length (now list)) × Fit (transactionFields WithSeller (transactionGiven WithSeller (now list) i)) ⌝ }
+    ensures { λ r. ⌜ r ≡ packed (transactionFields WithSeller (transactionGiven WithSeller (now (list .entry)) i)) ⌝ }
+{
+    ((((((numbers::word_at(list, 7 * i) * 16 + numbers::word_at(list, 7 * i + 1)) * 64
+        + numbers::word_at(list, 7 * i + 2))
+        * 64
+        + numbers::word_at(list, 7 * i + 3))
+        * 64
+        + numbers::word_at(list, 7 * i + 4))
+        * 64
+        + numbers::word_at(list, 7 * i + 5))
+        * 33554432
+        + numbers::word_at(list, 7 * i + 6))
+        * 4
+}
+
+// Transaction i of either edition.
+fn transaction_bits(edition: Edition, list: &[u8], i: usize) -> u64
+    requires { ⌜ (8 * (transactionLength edition * i + transactionLength edition) ≤ length (now list)) × Fit (transactionFields edition (transactionGiven edition (now list) i)) ⌝ }
+    ensures { λ r. ⌜ r ≡ packed (transactionFields edition (transactionGiven edition (now (list .entry)) i)) ⌝ }
+{
+    match edition {
+        Edition::PathOnly => path_bits(list, i),
+        Edition::WithSeller => sale_bits(list, i),
+    }
+}
+
+// Item i of a list, a transaction or a row.
+fn packed_at(transactions: bool, edition: Edition, list: &[u8], i: usize) -> u64
+    requires { ⌜ (8 * (itemLength transactions edition * i + itemLength transactions edition) ≤ length (now list)) × Fit (fieldsGiven transactions edition (now list) i) ⌝ }
+    ensures { λ r. ⌜ r ≡ packed (fieldsGiven transactions edition (now (list .entry)) i) ⌝ }
 {
     if transactions {
-        return transaction_bits(list, i);
+        return transaction_bits(edition, list, i);
     }
     row_bits(list, i)
 }
 
 // The first n of a list, from place k on.
-fn put_packed(transactions: bool, out: &mut [u8], k: usize, list: &[u8], n: usize)
-    requires { ⌜ (k + 6 * n ≤ length (now out)) × (48 * n ≤ length (now list)) × FieldsFit transactions (now list) n ⌝ }
-    ensures { λ _. ⌜ now (out .exit) ≡ sets (now (out .entry)) k (run 6 packed (tab (fieldsGiven transactions (now (list .entry))) n)) ⌝ }
+fn put_packed(transactions: bool, edition: Edition, out: &mut [u8], k: usize, list: &[u8], n: usize)
+    requires { ⌜ (k + itemSize transactions edition * n ≤ length (now out)) × (8 * (itemLength transactions edition * n) ≤ length (now list)) × FieldsFit transactions edition (now list) n ⌝ }
+    ensures { λ _. ⌜ now (out .exit) ≡ sets (now (out .entry)) k (run (itemSize transactions edition) packed (tab (fieldsGiven transactions edition (now (list .entry))) n)) ⌝ }
 {
+    let size = exercise_editions::item_size(transactions, edition);
     let mut i: usize = 0;
     while i < n {
-        put_six(out, k + 6 * i, packed_at(transactions, list, i));
+        put_item(
+            out,
+            k + size * i,
+            size,
+            packed_at(transactions, edition, list, i),
+        );
         i += 1;
     }
 }
@@ -136,20 +201,23 @@ fn put_file(
     locations: usize,
     rows: usize,
     transactions: usize,
+    edition: usize,
     prices: &[u8],
     row_list: &[u8],
     transaction_list: &[u8],
     out: &mut [u8],
 )
-    requires { ⌜ Ready participants locations rows transactions (now prices) (now «row_list») (now «transaction_list») (length (now out)) ⌝ }
-    ensures { λ _. ⌜ now (out .exit) ≡ sets (now (out .entry)) 0 (fileOf (hourGiven (content (pos participants) (pos locations) (pos rows) (pos transactions) (now (prices .entry)) (now («row_list» .entry)) (now («transaction_list» .entry))))) ⌝ }
+    requires { ⌜ Ready participants locations rows transactions edition (now prices) (now «row_list») (now «transaction_list») (length (now out)) ⌝ }
+    ensures { λ _. ⌜ now (out .exit) ≡ sets (now (out .entry)) 0 (fileOf (hourGiven (content (pos participants) (pos locations) (pos rows) (pos transactions) (pos edition) (now (prices .entry)) (now («row_list» .entry)) (now («transaction_list» .entry))))) ⌝ }
 {
-    put_header(out, participants, locations, rows, transactions);
+    put_header(out, participants, locations, rows, transactions, edition);
     put_prices(out, prices, 26 * locations);
     let rows_at = 5 + 3 * (26 * locations);
-    put_packed(false, out, rows_at, row_list, rows);
+    // rows are alike in both editions
+    put_packed(false, Edition::PathOnly, out, rows_at, row_list, rows);
     put_packed(
         true,
+        exercise_editions::edition_of(edition as u64),
         out,
         rows_at + 6 * rows,
         transaction_list,
@@ -157,25 +225,28 @@ fn put_file(
     );
 }
 
-// The file of content whose counts are in range, or its refusal.
+// The file of content whose counts and edition are in range, or its refusal.
 fn write_counted(
     participants: usize,
     locations: usize,
     rows: usize,
     transactions: usize,
+    edition: usize,
     prices: &[u8],
     row_list: &[u8],
     transaction_list: &[u8],
     file: &mut [u8],
 ) -> u32
-    requires { ⌜ HeaderFits participants locations rows transactions ⌝ }
-    ensures { λ r. ⌜ r ≡ writeRefusal (content (pos participants) (pos locations) (pos rows) (pos transactions) (now (prices .entry)) (now («row_list» .entry)) (now («transaction_list» .entry))) (length (now (file .entry))) ⌝ }
-    ensures { λ _. ⌜ now (file .exit) ≡ writeOutcome (content (pos participants) (pos locations) (pos rows) (pos transactions) (now (prices .entry)) (now («row_list» .entry)) (now («transaction_list» .entry))) (now (file .entry)) ⌝ }
+    requires { ⌜ HeaderFits participants locations rows transactions edition ⌝ }
+    ensures { λ r. ⌜ r ≡ writeRefusal (content (pos participants) (pos locations) (pos rows) (pos transactions) (pos edition) (now (prices .entry)) (now («row_list» .entry)) (now («transaction_list» .entry))) (length (now (file .entry))) ⌝ }
+    ensures { λ _. ⌜ now (file .exit) ≡ writeOutcome (content (pos participants) (pos locations) (pos rows) (pos transactions) (pos edition) (now (prices .entry)) (now («row_list» .entry)) (now («transaction_list» .entry))) (now (file .entry)) ⌝ }
 {
+    let layout = exercise_editions::edition_of(edition as u64);
     let refusal = exercise_lists::lists_refusal(
         locations,
         rows,
         transactions,
+        layout,
         prices.len(),
         row_list.len(),
         transaction_list.len(),
@@ -188,6 +259,7 @@ fn write_counted(
         locations,
         rows,
         transactions,
+        edition,
         prices,
         row_list,
         transaction_list,
@@ -195,7 +267,8 @@ fn write_counted(
     if refusal != 0 {
         return refusal;
     }
-    if file.len() < 5 + 3 * (26 * locations) + 6 * rows + 6 * transactions {
+    let size = exercise_editions::transaction_size(layout);
+    if file.len() < 5 + 3 * (26 * locations) + 6 * rows + size * transactions {
         return 1;
     }
     put_file(
@@ -203,6 +276,7 @@ fn write_counted(
         locations,
         rows,
         transactions,
+        edition,
         prices,
         row_list,
         transaction_list,
@@ -217,15 +291,22 @@ pub fn write_file(
     locations: i64,
     rows: i64,
     transactions: i64,
+    edition: i64,
     prices: &[u8],
     row_list: &[u8],
     transaction_list: &[u8],
     file: &mut [u8],
 ) -> u32
-    ensures { λ r. ⌜ r ≡ writeRefusal (content participants locations rows transactions (now (prices .entry)) (now («row_list» .entry)) (now («transaction_list» .entry))) (length (now (file .entry))) ⌝ }
-    ensures { λ _. ⌜ now (file .exit) ≡ writeOutcome (content participants locations rows transactions (now (prices .entry)) (now («row_list» .entry)) (now («transaction_list» .entry))) (now (file .entry)) ⌝ }
+    ensures { λ r. ⌜ r ≡ writeRefusal (content participants locations rows transactions edition (now (prices .entry)) (now («row_list» .entry)) (now («transaction_list» .entry))) (length (now (file .entry))) ⌝ }
+    ensures { λ _. ⌜ now (file .exit) ≡ writeOutcome (content participants locations rows transactions edition (now (prices .entry)) (now («row_list» .entry)) (now («transaction_list» .entry))) (now (file .entry)) ⌝ }
 {
-    let refusal = exercise_lists::counts_refusal(participants, locations, rows, transactions);
+    let refusal = exercise_lists::counts_refusal(
+        participants,
+        locations,
+        rows,
+        transactions,
+        edition,
+    );
     if refusal != 0 {
         return refusal;
     }
@@ -234,6 +315,7 @@ pub fn write_file(
         locations as usize,
         rows as usize,
         transactions as usize,
+        edition as usize,
         prices,
         row_list,
         transaction_list,

@@ -44,10 +44,10 @@ rounded-tab f n = ap (tab (λ p. centsOf (tab f n at p))) (length-tab f n) ∙ t
 
 -- the totals and shares of an hour are lists by the tariff
 module _ (hour : Hour) {totals : List ℤ} (l : length totals ≡ 64) where
-  pub congestion-totals : Charged (congestionPrices hour) (hour .rows) (hour .transactions) totals → totals ≡ tab (exactCongestion hour) 64
+  pub congestion-totals : Charged (hour .edition) (congestionPrices hour) (hour .rows) (hour .transactions) totals → totals ≡ tab (exactCongestion hour) 64
   congestion-totals c = by-numbers (exactCongestion hour) l (c .each)
 
-  pub loss-totals : Charged (lossPrices hour) (hour .rows) (hour .transactions) totals → totals ≡ tab (exactLoss hour) 64
+  pub loss-totals : Charged (hour .edition) (lossPrices hour) (hour .rows) (hour .transactions) totals → totals ≡ tab (exactLoss hour) 64
   loss-totals c = by-numbers (exactLoss hour) l (c .each)
 
   pub share-totals : Shared (hour .rows) totals → totals ≡ tab (shareOf hour) 64

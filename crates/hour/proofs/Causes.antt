@@ -22,7 +22,7 @@ use Rattle.hour.specs.Cause.{noCause, cause, asNumber, noRow, noTransact
 use Rattle.hour.specs.Hour.{dayAhead, Hour, allPrices}
 use Rattle.hour.specs.InsideCause.{firstFrom}
 use Rattle.hour.specs.InsideTotals.{Natural}
-use Rattle.hour.specs.Order.{isPrice, hasKind, hasInterval, rowRefusal, packedRowRefusal, transactionRefusal, pricesRefusal, rowsRefusal, transactionsRefusal, contentRefusal, notAbove, surplusRefusal, creditsRefusal}
+use Rattle.hour.specs.Order.{Spare, isPrice, hasKind, hasInterval, rowRefusal, packedRowRefusal, transactionRefusal, packedTransactionRefusal, pricesRefusal, rowsRefusal, transactionsRefusal, contentRefusal, notAbove, surplusRefusal, creditsRefusal}
 use Rattle.hour.specs.Surplus.{surplus, shares}
 use Rattle.hour.specs.declared.Cause.{Cause}
 use Rattle.hour.specs.declared.Row.{Row}
@@ -137,6 +137,11 @@ five-lines : (a b c d e : Bool) (after : ℕ) → (unless a 4 (unless b 4 (unles
 five-lines a b c d e after =
     line a 3 _ after ∙ ap (unless a 4) (line b 3 _ after ∙ ap (unless b 4) (line c 2 _ after ∙ ap (unless c 3) (line d 2 _ after ∙ ap (unless d 3) (line e 1 0 after))))
 
+-- one of a transaction, with six
+six-lines : (a b c d e f : Bool) (after : ℕ) → (unless a 4 (unless b 3 (unless c 3 (unless d 3 (unless e 3 (unless f 2 0))))) then after) ≡ unless a 4 (unless b 3 (unless c 3 (unless d 3 (unless e 3 (unless f 2 after)))))
+six-lines a b c d e f after =
+    line a 3 _ after ∙ ap (unless a 4) (line b 2 _ after ∙ ap (unless b 3) (line c 2 _ after ∙ ap (unless c 3) (line d 2 _ after ∙ ap (unless d 3) (line e 2 _ after ∙ ap (unless e 3) (line f 1 0 after)))))
+
 -- a test of every element with one number is a test of the list
 all-lines : {A : Type 0} (t : A → Bool) (k : ℕ) (f : ℕ → A → ℕ) → ((i : ℕ) (x : A) → f i x ≡ unless (t x) (suc k) 0) → (i : ℕ) (xs : List A) → inOrder f i xs ≡ unless (all t xs) (suc k) 0
 unfolding inOrder all
@@ -164,18 +169,21 @@ module _ (participants locations : ℕ) (few : participants ≤ 9223372036854775
       (at-most (row .kw .0) 20000000) (is-0 spare)
       ∙ sym (five-lines (hasKind (row .market) (row .kind)) (hasInterval (row .market) (row .interval)) (ltb (row .participant) participants) (ltb (row .location) locations) (leb (row .kw .0) 20000000) (unless (eqb spare 0) 9 0))
 
-  pub transaction-number : (i : ℕ) (t : Transaction) → transactionCause participants locations i t .refusal ≡ transactionRefusal participants locations t
-  unfolding transactionCause transactionRefusal
-  transaction-number i t =
+  pub transaction-number : (i : ℕ) (t : Transaction) (spare : ℕ) → transactionCause participants locations i t spare .refusal ≡ packedTransactionRefusal participants locations t spare
+  unfolding transactionCause packedTransactionRefusal transactionRefusal
+  transaction-number i t spare =
       next-line _ _ (ltb (t .market) 2) 3 _ (below-number 4 ofTransaction i 0 (t .market) 2 (omega arith))
       (next-line _ _ (ltb (t .interval) (intervalsOf (t .market))) 3 _ (below-number 4 ofTransaction i 1 (t .interval) (intervalsOf (t .market)) (intervals-few (t .market)))
       (next-line _ _ (ltb (t .participant) participants) 2 _ (below-number 3 ofTransaction i 2 (t .participant) participants few)
+      (next-line _ _ (ltb (t .seller) participants) 2 _ (below-number 3 ofTransaction i 6 (t .seller) participants few)
       (next-line _ _ (ltb (t .source) locations) 2 _ (below-number 3 ofTransaction i 3 (t .source) locations near)
       (next-line _ _ (ltb (t .sink) locations) 2 _ (below-number 3 ofTransaction i 4 (t .sink) locations near)
-      (below-number 2 ofTransaction i 5 (t .kw .0) 20000001 (omega arith))))))
+      (next-line _ _ (ltb (t .kw .0) 20000001) 1 _ (below-number 2 ofTransaction i 5 (t .kw .0) 20000001 (omega arith))
+      (below-number 9 ofTransaction i 7 spare 1 (omega arith))))))))
       ∙ with-interval (t .market) (t .interval) _
-      ∙ ap (λ (s : Bool). unless (hasInterval (t .market) (t .interval)) 4 (unless (ltb (t .participant) participants) 3 (unless (ltb (t .source) locations) 3 (unless (ltb (t .sink) locations) 3 (unless s 2 0)))))
-      (at-most (t .kw .0) 20000000)
+      ∙ ap₂ (λ (s u : Bool). unless (hasInterval (t .market) (t .interval)) 4 (unless (ltb (t .participant) participants) 3 (unless (ltb (t .seller) participants) 3 (unless (ltb (t .source) locations) 3 (unless (ltb (t .sink) locations) 3 (unless s 2 (unless u 9 0)))))))
+      (at-most (t .kw .0) 20000000) (is-0 spare)
+      ∙ sym (six-lines (hasInterval (t .market) (t .interval)) (ltb (t .participant) participants) (ltb (t .seller) participants) (ltb (t .source) locations) (ltb (t .sink) locations) (leb (t .kw .0) 20000000) (unless (eqb spare 0) 9 0))
 
 -- ---- prices, rows and transactions in turn
 
@@ -185,24 +193,24 @@ prices-number hour =
     first-number priceCause 0 (allPrices hour)
     ∙ all-lines isPrice 1 _ (λ j price. tested-number 2 ofPrice j 0 price (negℤ (pos 5000000)) (pos 5000000)) 0 (allPrices hour)
 
-module _ (hour : Hour) (few : hour .participants ≤ 9223372036854775808) (near : hour .locations ≤ 9223372036854775808) (spare : ℕ → ℕ) where
+module _ (hour : Hour) (few : hour .participants ≤ 9223372036854775808) (near : hour .locations ≤ 9223372036854775808) (spare : Spare) where
   rows-number : rowsCause hour spare .refusal ≡ rowsRefusal hour spare
   unfolding rowsCause rowsRefusal
   rows-number =
       first-number _ 0 (hour .rows)
-      ∙ order-ext _ (λ i row. packedRowRefusal (hour .participants) (hour .locations) row (spare i)) 0 (hour .rows) (λ i row _ _. row-number (hour .participants) (hour .locations) few near i row (spare i))
+      ∙ order-ext _ (λ i row. packedRowRefusal (hour .participants) (hour .locations) row (spare .row i)) 0 (hour .rows) (λ i row _ _. row-number (hour .participants) (hour .locations) few near i row (spare .row i))
 
-  transactions-number : transactionsCause hour .refusal ≡ transactionsRefusal hour
+  transactions-number : transactionsCause hour spare .refusal ≡ transactionsRefusal hour spare
   unfolding transactionsCause transactionsRefusal
   transactions-number =
       first-number _ 0 (hour .transactions)
-      ∙ order-ext _ (λ _ t. transactionRefusal (hour .participants) (hour .locations) t) 0 (hour .transactions) (λ i t _ _. transaction-number (hour .participants) (hour .locations) few near i t)
+      ∙ order-ext _ (λ i t. packedTransactionRefusal (hour .participants) (hour .locations) t (spare .transaction i)) 0 (hour .transactions) (λ i t _ _. transaction-number (hour .participants) (hour .locations) few near i t (spare .transaction i))
 
   pub content-number : contentCause hour spare .refusal ≡ contentRefusal hour spare
   unfolding contentCause contentRefusal
   content-number =
-      or-number (pricesCause hour) (rowsCause hour spare or transactionsCause hour)
-      ∙ ap₂ (λ (a b : ℕ). a then b) (prices-number hour) (or-number (rowsCause hour spare) (transactionsCause hour) ∙ ap₂ (λ (a b : ℕ). a then b) rows-number transactions-number)
+      or-number (pricesCause hour) (rowsCause hour spare or transactionsCause hour spare)
+      ∙ ap₂ (λ (a b : ℕ). a then b) (prices-number hour) (or-number (rowsCause hour spare) (transactionsCause hour spare) ∙ ap₂ (λ (a b : ℕ). a then b) rows-number transactions-number)
 
 -- ---- surplus and shares
 
@@ -269,18 +277,18 @@ row-outside participants locations i row spare =
     or-outside _ _ (tested-outside _ _ _ _ _ _ _) (or-outside _ _ (tested-outside _ _ _ _ _ _ _) (or-outside _ _ (tested-outside _ _ _ _ _ _ _) (or-outside _ _ (tested-outside _ _ _ _ _ _ _) (or-outside _ _ (tested-outside _ _ _ _ _ _ _)
     (or-outside _ _ (tested-outside _ _ _ _ _ _ _) (tested-outside _ _ _ _ _ _ _))))))
 
-transaction-outside : (participants locations i : ℕ) (t : Transaction) → Outside (transactionCause participants locations i t)
+transaction-outside : (participants locations i : ℕ) (t : Transaction) (spare : ℕ) → Outside (transactionCause participants locations i t spare)
 unfolding transactionCause
-transaction-outside participants locations i t =
+transaction-outside participants locations i t spare =
     or-outside _ _ (tested-outside _ _ _ _ _ _ _) (or-outside _ _ (tested-outside _ _ _ _ _ _ _) (or-outside _ _ (tested-outside _ _ _ _ _ _ _) (or-outside _ _ (tested-outside _ _ _ _ _ _ _)
-    (or-outside _ _ (tested-outside _ _ _ _ _ _ _) (tested-outside _ _ _ _ _ _ _)))))
+    (or-outside _ _ (tested-outside _ _ _ _ _ _ _) (or-outside _ _ (tested-outside _ _ _ _ _ _ _) (or-outside _ _ (tested-outside _ _ _ _ _ _ _) (tested-outside _ _ _ _ _ _ _)))))))
 
-pub content-outside : (hour : Hour) (spare : ℕ → ℕ) → Outside (contentCause hour spare)
+pub content-outside : (hour : Hour) (spare : Spare) → Outside (contentCause hour spare)
 unfolding contentCause pricesCause rowsCause transactionsCause
 content-outside hour spare =
     or-outside _ _ (first-outside priceCause (λ j price. tested-outside 2 ofPrice j 0 price (negℤ (pos 5000000)) (pos 5000000)) 0 (allPrices hour))
-    (or-outside _ _ (first-outside _ (λ i row. row-outside (hour .participants) (hour .locations) i row (spare i)) 0 (hour .rows))
-    (first-outside _ (λ i t. transaction-outside (hour .participants) (hour .locations) i t) 0 (hour .transactions)))
+    (or-outside _ _ (first-outside _ (λ i row. row-outside (hour .participants) (hour .locations) i row (spare .row i)) 0 (hour .rows))
+    (first-outside _ (λ i t. transaction-outside (hour .participants) (hour .locations) i t (spare .transaction i)) 0 (hour .transactions)))
 
 pub surplus-outside : (surplus : ℤ) (shares : List ℤ) → Outside (surplusCause surplus shares)
 unfolding surplusCause unsharedCause
@@ -394,22 +402,22 @@ module _ (numbers : ℕ → ℕ → List ℤ) where
   first-stands d f xs own = subst (Stands numbers) (sym (cause-of d f xs)) (from-stands _ own 0 (length xs))
 
 -- something that has the numbers of an hour at their places
-pub record HasHour (hour : Hour) (spare : ℕ → ℕ) (numbers : ℕ → ℕ → List ℤ) : Type 0 where
+pub record HasHour (hour : Hour) (spare : Spare) (numbers : ℕ → ℕ → List ℤ) : Type 0 where
   pub price : (j : ℕ) → numbers ofPrice j ≡ allPrices hour at j ∷ []
-  pub row : (i : ℕ) → numbers ofRow i ≡ rowFields (getD (hour .rows) i noRow) (spare i)
-  pub transaction : (i : ℕ) → numbers ofTransaction i ≡ transactionFields (getD (hour .transactions) i noTransaction)
+  pub row : (i : ℕ) → numbers ofRow i ≡ rowFields (getD (hour .rows) i noRow) (spare .row i)
+  pub transaction : (i : ℕ) → numbers ofTransaction i ≡ transactionFields (getD (hour .transactions) i noTransaction) (spare .transaction i)
   pub surplus-is : (k : ℕ) → numbers ofSurplus k ≡ surplus hour ∷ []
   pub share : (p : ℕ) → numbers ofShare p ≡ shares hour at p ∷ []
 
-module _ (hour : Hour) (spare : ℕ → ℕ) (numbers : ℕ → ℕ → List ℤ) (has : HasHour hour spare numbers) where
+module _ (hour : Hour) (spare : Spare) (numbers : ℕ → ℕ → List ℤ) (has : HasHour hour spare numbers) where
   -- number `field` of what stands there
   at-field : (xs ys : List ℤ) (field : ℕ) → xs ≡ ys → ys at field ≡ xs at field
   at-field xs ys field e = ap (λ (zs : List ℤ). zs at field) (sym e)
 
-  row-stands : (i : ℕ) → Stands numbers (rowCause (hour .participants) (hour .locations) i (getD (hour .rows) i noRow) (spare i))
+  row-stands : (i : ℕ) → Stands numbers (rowCause (hour .participants) (hour .locations) i (getD (hour .rows) i noRow) (spare .row i))
   unfolding rowCause
   row-stands i =
-      let number : (field : ℕ) → rowFields (getD (hour .rows) i noRow) (spare i) at field ≡ numbers ofRow i at field = λ field. at-field (numbers ofRow i) _ field (has .row i) in
+      let number : (field : ℕ) → rowFields (getD (hour .rows) i noRow) (spare .row i) at field ≡ numbers ofRow i at field = λ field. at-field (numbers ofRow i) _ field (has .row i) in
       or-stands numbers _ _ (tested-stands numbers 4 ofRow i 0 _ _ _ (number 0))
       (or-stands numbers _ _ (tested-stands numbers 4 ofRow i 1 _ _ _ (number 1))
       (or-stands numbers _ _ (tested-stands numbers 4 ofRow i 2 _ _ _ (number 2))
@@ -417,15 +425,17 @@ module _ (hour : Hour) (spare : ℕ → ℕ) (numbers : ℕ → ℕ → List ℤ
       (or-stands numbers _ _ (tested-stands numbers 3 ofRow i 4 _ _ _ (number 4))
       (or-stands numbers _ _ (tested-stands numbers 2 ofRow i 5 _ _ _ (number 5)) (tested-stands numbers 9 ofRow i 6 _ _ _ (number 6)))))))
 
-  transaction-stands : (i : ℕ) → Stands numbers (transactionCause (hour .participants) (hour .locations) i (getD (hour .transactions) i noTransaction))
+  transaction-stands : (i : ℕ) → Stands numbers (transactionCause (hour .participants) (hour .locations) i (getD (hour .transactions) i noTransaction) (spare .transaction i))
   unfolding transactionCause
   transaction-stands i =
-      let number : (field : ℕ) → transactionFields (getD (hour .transactions) i noTransaction) at field ≡ numbers ofTransaction i at field = λ field. at-field (numbers ofTransaction i) _ field (has .transaction i) in
+      let number : (field : ℕ) → transactionFields (getD (hour .transactions) i noTransaction) (spare .transaction i) at field ≡ numbers ofTransaction i at field = λ field. at-field (numbers ofTransaction i) _ field (has .transaction i) in
       or-stands numbers _ _ (tested-stands numbers 4 ofTransaction i 0 _ _ _ (number 0))
       (or-stands numbers _ _ (tested-stands numbers 4 ofTransaction i 1 _ _ _ (number 1))
       (or-stands numbers _ _ (tested-stands numbers 3 ofTransaction i 2 _ _ _ (number 2))
+      (or-stands numbers _ _ (tested-stands numbers 3 ofTransaction i 6 _ _ _ (number 6))
       (or-stands numbers _ _ (tested-stands numbers 3 ofTransaction i 3 _ _ _ (number 3))
-      (or-stands numbers _ _ (tested-stands numbers 3 ofTransaction i 4 _ _ _ (number 4)) (tested-stands numbers 2 ofTransaction i 5 _ _ _ (number 5))))))
+      (or-stands numbers _ _ (tested-stands numbers 3 ofTransaction i 4 _ _ _ (number 4))
+      (or-stands numbers _ _ (tested-stands numbers 2 ofTransaction i 5 _ _ _ (number 5)) (tested-stands numbers 9 ofTransaction i 7 _ _ _ (number 7))))))))
 
   pub content-stands : Stands numbers (contentCause hour spare)
   unfolding contentCause pricesCause rowsCause transactionsCause

@@ -1,6 +1,8 @@
 pub mod Terms
 pub mod Forms
 pub mod Theorem
+pub mod Additive
+pub mod Legs
 pub mod Own
 pub mod Sign
 pub mod Tested

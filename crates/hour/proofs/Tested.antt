@@ -60,12 +60,14 @@ module _ (participants locations : ℕ) where
   transaction-tested t e =
       let p1 = passed (hasInterval (t .market) (t .interval)) 3 _ e in
       let p2 = passed (ltb (t .participant) participants) 2 _ (p1 .1) in
-      let p3 = passed (ltb (t .source) locations) 2 _ (p2 .1) in
+      let ps = passed (ltb (t .seller) participants) 2 _ (p2 .1) in
+      let p3 = passed (ltb (t .source) locations) 2 _ (ps .1) in
       let p4 = passed (ltb (t .sink) locations) 2 _ (p3 .1) in
       let p5 = passed (leb (t .kw .0) 20000000) 1 0 (p4 .1) in
       record {
         timed = timed (t .market) (t .interval) (p1 .0);
         participant = ltb-true (t .participant) participants (p2 .0);
+        seller = ltb-true (t .seller) participants (ps .0);
         source = ltb-true (t .source) locations (p3 .0);
         sink = ltb-true (t .sink) locations (p4 .0);
         kw = leb-true (t .kw .0) 20000000 (p5 .0);
@@ -77,4 +79,4 @@ pub row-wider : {participants most locations : ℕ} {r : Row} → participants �
 row-wider h t = record { timed = t .timed; kind = t .kind; real = t .real; participant = omega (arith, t .participant); location = t .location; kw = t .kw }
 
 pub transaction-wider : {participants most locations : ℕ} {t : Transaction} → participants ≤ most → TransactionTested participants locations t → TransactionTested most locations t
-transaction-wider h t = record { timed = t .timed; participant = omega (arith, t .participant); source = t .source; sink = t .sink; kw = t .kw }
+transaction-wider h t = record { timed = t .timed; participant = omega (arith, t .participant); seller = omega (arith, t .seller); source = t .source; sink = t .sink; kw = t .kw }

@@ -9,6 +9,7 @@ use Rattle.hour.specs.Cause.{ofPrice, ofRow, ofTransaction, ofSurplus, o
 use Rattle.hour.specs.Hour.{dayAhead, realTime, load, decrementBid, incrementOffer}
 use Rattle.hour.specs.declared.Cause.{Cause}
 use Rattle.hour.specs.declared.Row.{Row}
+use Rattle.hour.specs.declared.Edition.the-variants as Edition
 use Rattle.hour.specs.declared.Transaction.{Transaction}
 
 -- ---- row 7 of 2 participants and 3 locations
@@ -74,9 +75,10 @@ twoRows location spare =
       lossAhead = [];
       lossReal = [];
       rows = aRow 0 ∷ aRow location ∷ [];
+      edition = Edition.PathOnly;
       transactions = [];
     })
-    spare
+    record { row = spare; transaction = λ _. 0 }
   where
     aRow : ℕ → Row
     aRow l = record { market = 0; kind = 0; interval = 0; participant = 0; location = l; kw = record { 0 = 7 } }
@@ -90,24 +92,28 @@ pub second-cases : SecondCases
 unfolding rowsCause rowCause firstCause tested
 second-cases = record { taken = refl; location = refl; spare = refl }
 
--- ---- transaction 0 of 2 participants and 3 locations
+-- ---- transaction 0 of 2 participants and 3 locations, with its spare bits
 
-abbrev whyPath : ℕ → ℕ → ℕ → ℕ → ℕ → ℕ → Cause
-whyPath market interval participant source sink kw =
-    transactionCause 2 3 0 (record { market = market; interval = interval; participant = participant; source = source; sink = sink; kw = record { 0 = kw } })
+abbrev whyPath : ℕ → ℕ → ℕ → ℕ → ℕ → ℕ → ℕ → ℕ → Cause
+whyPath market interval participant seller source sink kw spare =
+    transactionCause 2 3 0 (record { market = market; interval = interval; participant = participant; seller = seller; source = source; sink = sink; kw = record { 0 = kw } }) spare
 
 pub record TransactionCases : Type 0 where
-  pub taken : whyPath realTime 11 1 2 2 20000000 ≡ noCause
-  pub all-wrong : whyPath 2 15 63 63 63 33554431 ≡ cause 4 ofTransaction 0 0 (pos 2) (pos 0) (pos 1)
-  pub from-the-interval : whyPath dayAhead 15 63 63 63 33554431 ≡ cause 4 ofTransaction 0 1 (pos 15) (pos 0) (pos 0)
-  pub from-the-participant : whyPath dayAhead 0 63 63 63 33554431 ≡ cause 3 ofTransaction 0 2 (pos 63) (pos 0) (pos 1)
-  pub from-the-source : whyPath dayAhead 0 0 62 63 33554431 ≡ cause 3 ofTransaction 0 3 (pos 62) (pos 0) (pos 2)
-  pub from-the-sink : whyPath dayAhead 0 0 0 63 33554431 ≡ cause 3 ofTransaction 0 4 (pos 63) (pos 0) (pos 2)
-  pub from-the-kw : whyPath dayAhead 0 0 0 0 33554431 ≡ cause 2 ofTransaction 0 5 (pos 33554431) (pos 0) (pos 20000000)
+  pub taken : whyPath realTime 11 1 1 2 2 20000000 0 ≡ noCause
+  pub all-wrong : whyPath 2 15 63 62 63 63 33554431 3 ≡ cause 4 ofTransaction 0 0 (pos 2) (pos 0) (pos 1)
+  pub from-the-interval : whyPath dayAhead 15 63 62 63 63 33554431 3 ≡ cause 4 ofTransaction 0 1 (pos 15) (pos 0) (pos 0)
+  pub from-the-participant : whyPath dayAhead 0 63 62 63 63 33554431 3 ≡ cause 3 ofTransaction 0 2 (pos 63) (pos 0) (pos 1)
+  -- "seller 3, after the participant"
+  pub from-the-seller : whyPath dayAhead 0 0 62 63 63 33554431 3 ≡ cause 3 ofTransaction 0 6 (pos 62) (pos 0) (pos 1)
+  pub from-the-source : whyPath dayAhead 0 0 0 62 63 33554431 3 ≡ cause 3 ofTransaction 0 3 (pos 62) (pos 0) (pos 2)
+  pub from-the-sink : whyPath dayAhead 0 0 0 0 63 33554431 3 ≡ cause 3 ofTransaction 0 4 (pos 63) (pos 0) (pos 2)
+  pub from-the-kw : whyPath dayAhead 0 0 0 0 0 33554431 3 ≡ cause 2 ofTransaction 0 5 (pos 33554431) (pos 0) (pos 20000000)
+  -- "spare bits 9, after the kW"
+  pub from-the-spare : whyPath dayAhead 0 0 0 0 0 20000000 2 ≡ cause 9 ofTransaction 0 7 (pos 2) (pos 0) (pos 0)
 
 pub transaction-cases : TransactionCases
 unfolding transactionCause tested
-transaction-cases = record { taken = refl; all-wrong = refl; from-the-interval = refl; from-the-participant = refl; from-the-source = refl; from-the-sink = refl; from-the-kw = refl }
+transaction-cases = record { taken = refl; all-wrong = refl; from-the-interval = refl; from-the-participant = refl; from-the-seller = refl; from-the-source = refl; from-the-sink = refl; from-the-kw = refl; from-the-spare = refl }
 
 -- ---- prices, and which of a list is told
 

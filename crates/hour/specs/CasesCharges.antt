@@ -16,7 +16,7 @@ abbrev row : ℕ → ℕ → ℕ → ℕ → ℕ → ℕ → Position
 row m kind k p l kw = positionOf (record { market = m; kind = kind; interval = k; participant = p; location = l; kw = record { 0 = kw } })
 
 abbrev transaction : ℕ → ℕ → ℕ → ℕ → ℕ → ℕ → Transaction
-transaction m k p source sink kw = record { market = m; interval = k; participant = p; source = source; sink = sink; kw = record { 0 = kw } }
+transaction m k p source sink kw = record { market = m; interval = k; participant = p; seller = 0; source = source; sink = sink; kw = record { 0 = kw } }
 
 -- participant 0's MW in day-ahead, and in real time in interval k: kind, location, MW
 abbrev ahead : ℕ → ℕ → ℕ → Position
@@ -30,11 +30,11 @@ abbrev pub each : {A : Type 0} → (ℕ → List A) → List A
 each f = f 0 ++ f 1 ++ f 2 ++ f 3 ++ f 4 ++ f 5 ++ f 6 ++ f 7 ++ f 8 ++ f 9 ++ f 10 ++ f 11
 
 -- the same prices in each
-abbrev alike : List ℤ → List ℤ
+abbrev pub alike : List ℤ → List ℤ
 alike prices = each (λ k. prices)
 
 -- so many cents, in twelfths
-abbrev ofCents : ℕ → ℤ
+abbrev pub ofCents : ℕ → ℤ
 ofCents n = pos (n * 120000)
 
 -- ---- document 002: participant ABC's bills, positions
@@ -50,16 +50,16 @@ actual k = real k 0 0 220 ∷ real k 3 0 100 ∷ real k 1 2 110 ∷ real k 1 0 3
 abbrev both : List Position
 both = schedule ++ each actual
 
-abbrev congestionAhead : List ℤ
+abbrev pub congestionAhead : List ℤ
 congestionAhead = pos 13240 ∷ pos 19620 ∷ pos 4520 ∷ pos 0 ∷ []
 
-abbrev congestionReal : List ℤ
+abbrev pub congestionReal : List ℤ
 congestionReal = pos 18400 ∷ pos 17810 ∷ pos 3100 ∷ pos 0 ∷ []
 
-abbrev lossAhead : List ℤ
+abbrev pub lossAhead : List ℤ
 lossAhead = pos 600 ∷ pos 380 ∷ pos 120 ∷ pos 0 ∷ []
 
-abbrev lossReal : List ℤ
+abbrev pub lossReal : List ℤ
 lossReal = pos 860 ∷ pos 440 ∷ pos 150 ∷ pos 0 ∷ []
 
 -- prices that are left out count 0, so that the other market's bill stands alone

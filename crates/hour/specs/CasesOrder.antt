@@ -11,8 +11,9 @@ use Rattle.ints.specs.Table.{all}
 use Rattle.ints.specs.Turn.{inOrder}
 use Rattle.split.specs.Split.{total}
 use Rattle.hour.specs.Hour.{dayAhead, realTime, load, import, decrementBid, incrementOffer}
-use Rattle.hour.specs.Order.{isPrice, pricesRefusal, rowRefusal, packedRowRefusal, rowsRefusal, transactionRefusal, transactionsRefusal, contentRefusal, outputsRefusal, surplusRefusal}
+use Rattle.hour.specs.Order.{isPrice, pricesRefusal, rowRefusal, packedRowRefusal, rowsRefusal, transactionRefusal, packedTransactionRefusal, transactionsRefusal, contentRefusal, outputsRefusal, surplusRefusal}
 use Rattle.hour.specs.declared.Row.{Row}
+use Rattle.hour.specs.declared.Edition.the-variants as Edition
 use Rattle.hour.specs.declared.Transaction.{Transaction}
 
 -- ---- 2, of a price: "-5,000,000 to 5,000,000"
@@ -117,20 +118,20 @@ kw-cases = record {
 
 -- ---- a transaction, likewise
 
-abbrev transaction : ℕ → ℕ → ℕ → ℕ → ℕ → ℕ → Transaction
-transaction m k p source sink kw = record { market = m; interval = k; participant = p; source = source; sink = sink; kw = record { 0 = kw } }
+abbrev transaction : ℕ → ℕ → ℕ → ℕ → ℕ → ℕ → ℕ → Transaction
+transaction m k p seller source sink kw = record { market = m; interval = k; participant = p; seller = seller; source = source; sink = sink; kw = record { 0 = kw } }
 
 -- 4, before 3: the participant is none
 abbrev pathFits : ℕ → ℕ → ℕ
-pathFits market interval = transactionRefusal 2 3 (transaction market interval 2 0 0 0)
+pathFits market interval = transactionRefusal 2 3 (transaction market interval 2 0 0 0 0)
 
 -- 3, before 2: 20,000,001 kW
-abbrev pathNamed : ℕ → ℕ → ℕ → ℕ
-pathNamed participant source sink = transactionRefusal 2 3 (transaction realTime 0 participant source sink 20000001)
+abbrev pathNamed : ℕ → ℕ → ℕ → ℕ → ℕ
+pathNamed participant seller source sink = transactionRefusal 2 3 (transaction realTime 0 participant seller source sink 20000001)
 
--- 2
-abbrev pathHeavy : ℕ → ℕ
-pathHeavy kw = transactionRefusal 2 3 (transaction realTime 0 0 0 0 kw)
+-- 2, before 9: spare bits
+abbrev pathHeavy : ℕ → ℕ → ℕ
+pathHeavy kw spare = packedTransactionRefusal 2 3 (transaction realTime 0 0 0 0 0 kw) spare
 
 pub record PathCases : Type 0 where
   pub path-ahead : pathFits dayAhead 0 ≡ 3
@@ -138,17 +139,20 @@ pub record PathCases : Type 0 where
   pub path-last-interval : pathFits realTime 11 ≡ 3
   pub path-interval-12 : pathFits realTime 12 ≡ 4
   pub path-market-2 : pathFits 2 0 ≡ 4
-  pub path-first : pathNamed 0 0 0 ≡ 2
-  pub path-last : pathNamed 1 2 2 ≡ 2
-  pub path-participant-above : pathNamed 2 0 0 ≡ 3
-  pub path-source-above : pathNamed 0 3 0 ≡ 3
-  pub path-sink-above : pathNamed 0 0 3 ≡ 3
-  pub path-no-kw : pathHeavy 0 ≡ 0
-  pub path-most-kw : pathHeavy 20000000 ≡ 0
-  pub path-kw-above : pathHeavy 20000001 ≡ 2
+  pub path-first : pathNamed 0 0 0 0 ≡ 2
+  pub path-last : pathNamed 1 1 2 2 ≡ 2
+  pub path-participant-above : pathNamed 2 0 0 0 ≡ 3
+  pub path-seller-above : pathNamed 0 2 0 0 ≡ 3
+  pub path-source-above : pathNamed 0 0 3 0 ≡ 3
+  pub path-sink-above : pathNamed 0 0 0 3 ≡ 3
+  pub path-no-kw : pathHeavy 0 0 ≡ 0
+  pub path-most-kw : pathHeavy 20000000 0 ≡ 0
+  pub path-kw-above : pathHeavy 20000001 3 ≡ 2
+  pub path-spare-lower : pathHeavy 20000000 1 ≡ 9
+  pub path-spare-upper : pathHeavy 20000000 2 ≡ 9
 
 pub path-cases : PathCases
-unfolding transactionRefusal
+unfolding packedTransactionRefusal transactionRefusal
 path-cases = record {
   path-ahead = refl;
   path-ahead-in-1 = refl;
@@ -158,18 +162,21 @@ path-cases = record {
   path-first = refl;
   path-last = refl;
   path-participant-above = refl;
+  path-seller-above = refl;
   path-source-above = refl;
   path-sink-above = refl;
   path-no-kw = refl;
   path-most-kw = refl;
   path-kw-above = refl;
+  path-spare-lower = refl;
+  path-spare-upper = refl;
 }
 
 -- ---- "2 prices; rows in turn (4; 3 participant, location; 2; 9); transactions in turn (4; 3 participant, source, sink; 2)", of 2 participants and 3 locations
 
--- with a price, the first row's kW, the spare bits beside each row, the second row's kind, and the path's sink
-abbrev tried : ℤ → ℕ → ℕ → ℕ → ℕ → ℕ
-tried price kw spare kind sink =
+-- with a price, the first row's kW, the spare bits beside each row, the second row's kind, the path's sink, and the spare bits beside it
+abbrev tried : ℤ → ℕ → ℕ → ℕ → ℕ → ℕ → ℕ
+tried price kw spare kind sink beside =
     contentRefusal
     record {
       participants = 2;
@@ -179,20 +186,22 @@ tried price kw spare kind sink =
       lossAhead = pos 0 ∷ [];
       lossReal = price ∷ [];
       rows = row realTime load 0 0 0 kw ∷ row realTime kind 0 0 0 0 ∷ [];
-      transactions = transaction realTime 0 0 0 sink 0 ∷ [];
+      edition = Edition.WithSeller;
+      transactions = transaction realTime 0 0 0 0 sink 0 ∷ [];
     }
-    (λ i. spare)
+    record { row = λ i. spare; transaction = λ i. beside }
 
 pub record ContentCases : Type 0 where
-  pub nothing : tried (pos 0) 0 0 load 2 ≡ 0
-  pub price-first : tried (pos 5000001) 0 0 6 2 ≡ 2
-  pub kw-before-spare : tried (pos 0) 20000001 1 load 2 ≡ 2
-  pub in-turn : tried (pos 0) 0 1 6 2 ≡ 9
-  pub row-next : tried (pos 0) 0 0 6 3 ≡ 4
-  pub transaction-last : tried (pos 0) 0 0 load 3 ≡ 3
+  pub nothing : tried (pos 0) 0 0 load 2 0 ≡ 0
+  pub price-first : tried (pos 5000001) 0 0 6 2 0 ≡ 2
+  pub kw-before-spare : tried (pos 0) 20000001 1 load 2 0 ≡ 2
+  pub in-turn : tried (pos 0) 0 1 6 2 0 ≡ 9
+  pub row-next : tried (pos 0) 0 0 6 3 0 ≡ 4
+  pub transaction-last : tried (pos 0) 0 0 load 3 1 ≡ 3
+  pub spare-last : tried (pos 0) 0 0 load 2 1 ≡ 9
 
 pub content-cases : ContentCases
-unfolding contentRefusal pricesRefusal rowsRefusal transactionsRefusal inOrder packedRowRefusal rowRefusal transactionRefusal all
+unfolding contentRefusal pricesRefusal rowsRefusal transactionsRefusal inOrder packedRowRefusal rowRefusal packedTransactionRefusal transactionRefusal all
 content-cases = record {
   nothing = refl;
   price-first = refl;
@@ -200,6 +209,7 @@ content-cases = record {
   in-turn = refl;
   row-next = refl;
   transaction-last = refl;
+  spare-last = refl;
 }
 
 -- ---- 10 and 7: the largest surplus, either way, and share, and one more

@@ -13,6 +13,7 @@ use Rattle.hour.specs.Hour.{dayAhead, realTime, load, generation, export
 use Rattle.hour.specs.Charges.{aheadAt, realAt, aheadPath, realPath, positionCharge, pathCharge, charge, congestionCharges, lossCharges}
 use Rattle.hour.specs.CasesCharges.{each}
 use Rattle.hour.specs.Surplus.{isShare, shareKw, surplus, shares, credits, nets}
+use Rattle.hour.specs.declared.Edition.the-variants as Edition
 use Rattle.hour.specs.declared.Row.{Row}
 
 -- ---- shares
@@ -65,6 +66,7 @@ statement = record {
   lossAhead = pos 120 ∷ pos 600 ∷ [];
   lossReal = each (λ k. pos 120 ∷ pos 600 ∷ []);
   rows = row realTime load 0 0 1 200000 ∷ row realTime generation 0 1 0 110000 ∷ row realTime export 0 1 1 100000 ∷ [];
+  edition = Edition.PathOnly;
   transactions = [];
 }
 
@@ -101,6 +103,7 @@ two = record {
   lossAhead = pos 0 ∷ [];
   lossReal = replicate 12 (pos 1000);
   rows = row realTime load 0 0 0 48 ∷ row realTime load 1 0 0 48 ∷ [];
+  edition = Edition.PathOnly;
   transactions = [];
 }
 

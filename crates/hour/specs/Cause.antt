@@ -11,6 +11,7 @@ use Rattle.ints.specs.Table.{_at_}
 use Rattle.ints.specs.Twos.{twos}
 use Rattle.split.specs.Split.{total}
 use Rattle.hour.specs.Hour.{dayAhead, Hour, allPrices}
+use Rattle.hour.specs.Order.{Spare}
 use Rattle.hour.specs.Surplus.{surplus, shares}
 use Rattle.hour.specs.declared.Cause.{Cause}
 use Rattle.hour.specs.declared.Row.{Row}
@@ -105,27 +106,31 @@ rowCause participants locations i row spare =
     or below 2 ofRow i 5 (row .kw .0) 20000001
     or below 9 ofRow i 6 spare 1
 
-unfoldable pub rowsCause : Hour → (ℕ → ℕ) → Cause
-rowsCause hour spare = firstCause (λ i row. rowCause (hour .participants) (hour .locations) i row (spare i)) 0 (hour .rows)
+unfoldable pub rowsCause : Hour → Spare → Cause
+rowsCause hour spare = firstCause (λ i row. rowCause (hour .participants) (hour .locations) i row (spare .row i)) 0 (hour .rows)
 
--- ---- "transactions in turn (4; 3 participant, source, sink; 2)"
+-- ---- "transactions in turn (4; 3 participant, source, sink; 2)"; document 02, ticket 2: "seller 3, after the participant; spare bits 9, after the kW"
 
-unfoldable pub transactionCause : ℕ → ℕ → ℕ → Transaction → Cause
-transactionCause participants locations i transaction =
+-- a transaction's numbers are told alike in both editions: those of edition 0 in their order, then seller and spare bits
+unfoldable pub transactionCause : ℕ → ℕ → ℕ → Transaction → ℕ → Cause
+transactionCause participants locations i transaction spare =
     below 4 ofTransaction i 0 (transaction .market) 2
     or below 4 ofTransaction i 1 (transaction .interval) (intervalsOf (transaction .market))
     or below 3 ofTransaction i 2 (transaction .participant) participants
+    or below 3 ofTransaction i 6 (transaction .seller) participants
     or below 3 ofTransaction i 3 (transaction .source) locations
     or below 3 ofTransaction i 4 (transaction .sink) locations
     or below 2 ofTransaction i 5 (transaction .kw .0) 20000001
+    or below 9 ofTransaction i 7 spare 1
 
-unfoldable pub transactionsCause : Hour → Cause
-transactionsCause hour = firstCause (transactionCause (hour .participants) (hour .locations)) 0 (hour .transactions)
+unfoldable pub transactionsCause : Hour → Spare → Cause
+transactionsCause hour spare =
+    firstCause (λ i transaction. transactionCause (hour .participants) (hour .locations) i transaction (spare .transaction i)) 0 (hour .transactions)
 
 -- ---- "2 prices; rows in turn (..); transactions in turn (..)"
 
-unfoldable pub contentCause : Hour → (ℕ → ℕ) → Cause
-contentCause hour spare = pricesCause hour or rowsCause hour spare or transactionsCause hour
+unfoldable pub contentCause : Hour → Spare → Cause
+contentCause hour spare = pricesCause hour or rowsCause hour spare or transactionsCause hour spare
 
 -- ---- "10; 7"
 
@@ -147,27 +152,27 @@ surplusCause surplus shares =
 abbrev pub creditsCause : Hour → Cause
 creditsCause hour = surplusCause (surplus hour) (shares hour)
 
--- ---- what stands at a place: the numbers of a price, a row with its spare bits, a transaction, the surplus, a share, in the order of their fields
+-- ---- what stands at a place: the numbers of a price, a row and a transaction with their spare bits, the surplus, a share, in the order of their fields
 
 abbrev pub noRow : Row
 noRow = record { market = 0; kind = 0; interval = 0; participant = 0; location = 0; kw = record { 0 = 0 } }
 
 abbrev pub noTransaction : Transaction
-noTransaction = record { market = 0; interval = 0; participant = 0; source = 0; sink = 0; kw = record { 0 = 0 } }
+noTransaction = record { market = 0; interval = 0; participant = 0; seller = 0; source = 0; sink = 0; kw = record { 0 = 0 } }
 
 abbrev pub rowFields : Row → ℕ → List ℤ
 rowFields row spare =
     asNumber (row .market) ∷ asNumber (row .kind) ∷ asNumber (row .interval) ∷ asNumber (row .participant) ∷ asNumber (row .location) ∷ asNumber (row .kw .0) ∷ asNumber spare ∷ []
 
-abbrev pub transactionFields : Transaction → List ℤ
-transactionFields t =
-    asNumber (t .market) ∷ asNumber (t .interval) ∷ asNumber (t .participant) ∷ asNumber (t .source) ∷ asNumber (t .sink) ∷ asNumber (t .kw .0) ∷ []
+abbrev pub transactionFields : Transaction → ℕ → List ℤ
+transactionFields t spare =
+    asNumber (t .market) ∷ asNumber (t .interval) ∷ asNumber (t .participant) ∷ asNumber (t .source) ∷ asNumber (t .sink) ∷ asNumber (t .kw .0) ∷ asNumber (t .seller) ∷ asNumber spare ∷ []
 
-unfoldable pub standsAt : Hour → (ℕ → ℕ) → ℕ → ℕ → List ℤ
+unfoldable pub standsAt : Hour → Spare → ℕ → ℕ → List ℤ
 standsAt hour spare part number =
     pick (eqb part ofPrice) (allPrices hour at number ∷ [])
-    (pick (eqb part ofRow) (rowFields (getD (hour .rows) number noRow) (spare number))
-    (pick (eqb part ofTransaction) (transactionFields (getD (hour .transactions) number noTransaction))
+    (pick (eqb part ofRow) (rowFields (getD (hour .rows) number noRow) (spare .row number))
+    (pick (eqb part ofTransaction) (transactionFields (getD (hour .transactions) number noTransaction) (spare .transaction number))
     (pick (eqb part ofSurplus) (surplus hour ∷ [])
     (pick (eqb part ofShare) (shares hour at number ∷ []) []))))
 

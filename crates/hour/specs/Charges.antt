@@ -4,14 +4,14 @@
 -- price once, since there (5.1.1, 5.4.2(c)) "the dollar-per-MW hour value is divided by the number of Real-time Settlement Intervals in the hour". Nothing is rounded
 -- before the end: "A participant's exact total is rounded once". Assumes nothing.
 use mathlib.Core.Bool.{Bool, not, _&&_}
-use mathlib.Core.List.{List}
+use mathlib.Core.List.{List, [], map}
 use Prim.Native.Nat.{ℕ}
 use lib.Dec.{eqb}
 use lib.IntN.{ℤ, pos, negsuc, _+ℤ_, _-ℤ_, _*ℤ_}
 use Rattle.ints.specs.Sum.{Σℤ, sumTo, only}
 use Rattle.ints.specs.Table.{_at_, tab}
 use Rattle.units.specs.Units.{centsOf}
-use Rattle.hour.specs.Hour.{dayAhead, realTime, Hour, Prices, congestionPrices, lossPrices, intervalOf, Position, positions}
+use Rattle.hour.specs.Hour.{dayAhead, realTime, Hour, Prices, congestionPrices, lossPrices, intervalOf, Position, positionOf, positions}
 use Rattle.hour.specs.declared.Transaction.{Transaction}
 
 -- ---- prices
@@ -143,6 +143,13 @@ congestionCharge hour p = centsOf (exactCongestion hour p)
 
 abbrev pub lossCharge : Hour → ℕ → ℤ
 lossCharge hour p = centsOf (exactLoss hour p)
+
+-- document 02, ticket 2: "the class's exact total" at a price list, and what its rows alone come to
+abbrev pub classTotal : Prices → Hour → ℤ
+classTotal prices hour = sumTo (charge prices (positions hour) (hour .transactions)) (hour .participants)
+
+abbrev pub rowsTotal : Prices → Hour → ℤ
+rowsTotal prices hour = sumTo (charge prices (map positionOf (hour .rows)) []) (hour .participants)
 
 -- each participant's
 unfoldable pub congestionCharges : Hour → List ℤ

@@ -1,11 +1,13 @@
--- An hour (document 01, "Charges"): its prices, rows and transactions as numbers, whatever they were read from, and the positions that the tariff adds up.
--- Assumes nothing.
-use mathlib.Core.Bool.{Bool, _||_}
-use mathlib.Core.List.{List, map, _++_}
+-- An hour (document 01, "Charges"; document 02, ticket 2): its prices, rows and transactions as numbers, whatever they were read from, and the positions that the tariff
+-- adds up. Assumes nothing.
+use mathlib.Core.Bool.{Bool, true, false, _||_}
+use mathlib.Core.List.{List, [], _∷_, map, _++_}
 use Prim.Native.Nat.{ℕ, _*_}
 use lib.Dec.{eqb}
 use lib.IntN.{ℤ}
 use lib.ListN.{take, drop}
+use Rattle.hour.specs.declared.Edition.{Edition}
+use Rattle.hour.specs.declared.Edition.the-variants as Edition
 use Rattle.hour.specs.declared.Row.{Row}
 use Rattle.hour.specs.declared.Transaction.{Transaction}
 
@@ -53,7 +55,8 @@ pub record Hour : Type 0 where
   pub lossReal : List ℤ
   -- "A row is a market (day-ahead 0, real time 1), a kind, an interval, a participant, a location and kW."
   pub rows : List Row
-  -- "A transaction (market, interval, participant, source, sink, kW)"
+  -- "A transaction (market, interval, participant, source, sink, kW)"; document 02, ticket 2: "Transactions get a seller", in edition 1
+  pub edition : Edition
   pub transactions : List Transaction
 
 -- all its prices: "congestion day-ahead for each location, congestion real time interval by interval, then loss the same way"
@@ -104,6 +107,35 @@ positionOf r =
       kw = r .kw .0;
     }
 
--- those of an hour are its rows. A transaction is none: it costs by its path, and "does nothing else"
+-- document 02, ticket 2: "a purchase as the buyer's injection at the sink; the sale is the seller's withdrawal at the source". "both legs post in both markets": each in the
+-- transaction's own market and interval. The participant is the buyer
+abbrev pub purchaseOf : Transaction → Position
+purchaseOf t = record { market = t .market; interval = t .interval; participant = t .participant; location = t .sink; withdrawal = false; kw = t .kw .0 }
+
+abbrev pub saleOf : Transaction → Position
+saleOf t = record { market = t .market; interval = t .interval; participant = t .seller; location = t .source; withdrawal = true; kw = t .kw .0 }
+
+-- "an edition: 0 as before, path only": there a transaction costs by its path, and "does nothing else"; "1 has the seller"
+abbrev pub legs : Edition → List Transaction → List Position
+legs Edition.PathOnly transactions = []
+legs Edition.WithSeller transactions = map purchaseOf transactions ++ map saleOf transactions
+
+-- those of an hour are its rows and the legs of its transactions
 abbrev pub positions : Hour → List Position
-positions hour = map positionOf (hour .rows)
+positions hour = map positionOf (hour .rows) ++ legs (hour .edition) (hour .transactions)
+
+-- ---- an hour with one transaction more
+
+abbrev pub withTransaction : Hour → Transaction → Hour
+withTransaction hour t =
+    record {
+      participants = hour .participants;
+      locations = hour .locations;
+      congestionAhead = hour .congestionAhead;
+      congestionReal = hour .congestionReal;
+      lossAhead = hour .lossAhead;
+      lossReal = hour .lossReal;
+      rows = hour .rows;
+      edition = hour .edition;
+      transactions = hour .transactions ++ (t ∷ []);
+    }

@@ -1,17 +1,19 @@
 -- What one position, and one transaction, adds to its participant's charge: kW times a weight that is computed once a location. The fast form of the charges, which
 -- proofs/Theorem.antt joins to the tariff's. Assumes nothing.
-use mathlib.Core.Bool.{Bool}
+use mathlib.Core.Bool.{Bool, _||_}
 use mathlib.Core.List.{List}
 use Prim.Native.Nat.{ℕ, _<_}
 use lib.Dec.{eqb}
-use lib.IntN.{ℤ, pos, negsuc, _-ℤ_, _*ℤ_}
-use Rattle.ints.specs.InsideEvery.{keep, owed}
+use lib.IntN.{ℤ, pos, negsuc, negℤ, _+ℤ_, _-ℤ_, _*ℤ_}
+use Rattle.ints.specs.InsideEvery.{keep, toOwner, owed}
 use Rattle.ints.specs.Refusal.{pick}
 use Rattle.ints.specs.Sum.{sumTo}
 use Rattle.ints.specs.Table.{_at_}
 use Rattle.hour.specs.Charges.{P, C}
 use Rattle.hour.specs.Hour.{dayAhead, Prices, intervalOf, Position}
 use Rattle.hour.specs.InsideTested.{Timed}
+use Rattle.hour.specs.declared.Edition.{Edition}
+use Rattle.hour.specs.declared.Edition.the-variants as Edition
 use Rattle.hour.specs.declared.Row.{Row}
 use Rattle.hour.specs.declared.Transaction.{Transaction}
 
@@ -34,9 +36,26 @@ weightIn weights real locations market interval l = pick (eqb market dayAhead) (
 unfoldable pub positionPart : Prices → Position → ℤ
 positionPart prices x = sign (x .withdrawal) *ℤ pos (x .kw) *ℤ weight prices (x .market) (x .interval) (x .location)
 
+-- of a transaction, its path
 unfoldable pub transactionPart : Prices → Transaction → ℤ
 transactionPart prices t =
     pos (t .kw .0) *ℤ (weight prices (t .market) (t .interval) (t .sink) -ℤ weight prices (t .market) (t .interval) (t .source))
+
+-- ---- a transaction whole, path and legs, by what a kW counts in a market and interval at a location
+
+-- to its participant. With a seller, what the participant pays for the path at the sink it is paid for what it injects there, so that the source is left
+unfoldable pub buyerPart : Edition → (ℕ → ℕ → ℕ → ℤ) → Transaction → ℤ
+buyerPart Edition.PathOnly counts t = pos (t .kw .0) *ℤ (counts (t .market) (t .interval) (t .sink) -ℤ counts (t .market) (t .interval) (t .source))
+buyerPart Edition.WithSeller counts t = negℤ (pos (t .kw .0) *ℤ counts (t .market) (t .interval) (t .source))
+
+-- to its seller
+unfoldable pub sellerPart : Edition → (ℕ → ℕ → ℕ → ℤ) → Transaction → ℤ
+sellerPart Edition.PathOnly counts t = pos 0
+sellerPart Edition.WithSeller counts t = pos (t .kw .0) *ℤ counts (t .market) (t .interval) (t .source)
+
+-- to participant p, who may be both
+abbrev pub addsTo : Edition → (ℕ → ℕ → ℕ → ℤ) → Transaction → ℕ → ℤ
+addsTo edition counts t p = toOwner (λ t. t .participant) (buyerPart edition counts) t p +ℤ toOwner (λ t. t .seller) (sellerPart edition counts) t p
 
 -- the parts of p's own positions, and transactions
 abbrev pub positionParts : Prices → List Position → ℕ → ℤ
@@ -64,3 +83,11 @@ ownRows p rows = keep (λ r. eqb (r .participant) p) rows
 
 abbrev pub ownTransactions : ℕ → List Transaction → List Transaction
 ownTransactions p transactions = keep (λ t. eqb (t .participant) p) transactions
+
+-- those that p has a part in: as its participant, and with a seller also as that
+abbrev pub isParty : Edition → ℕ → Transaction → Bool
+isParty Edition.PathOnly p t = eqb (t .participant) p
+isParty Edition.WithSeller p t = eqb (t .participant) p || eqb (t .seller) p
+
+abbrev pub partyTransactions : Edition → ℕ → List Transaction → List Transaction
+partyTransactions edition p transactions = keep (isParty edition p) transactions

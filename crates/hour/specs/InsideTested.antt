@@ -25,6 +25,7 @@ pub record RowTested (participants locations : ℕ) (r : Row) : Type 0 where
 pub record TransactionTested (participants locations : ℕ) (t : Transaction) : Type 0 where
   pub timed : Timed (t .market) (t .interval)
   pub participant : t .participant < participants
+  pub seller : t .seller < participants
   pub source : t .source < locations
   pub sink : t .sink < locations
   pub kw : t .kw .0 ≤ 20000000

@@ -1,7 +1,7 @@
 -- Totals, shares and charges as lists with a number for each participant, and how large they are. Assumes nothing.
 use mathlib.Core.Path.{_≡_}
 use mathlib.Core.Bool.{true}
-use mathlib.Core.List.{List, map}
+use mathlib.Core.List.{List, map, _++_}
 use Prim.Native.Nat.{ℕ}
 use lib.IntN.{ℤ, pos, _+ℤ_, _-ℤ_}
 use lib.ListN.{length}
@@ -11,14 +11,15 @@ use Rattle.ints.specs.InsideEvery.{owed}
 use Rattle.ints.specs.Table.{_at_, tab}
 use Rattle.units.specs.Units.{centsOf}
 use Rattle.hour.specs.Charges.{charge}
-use Rattle.hour.specs.Hour.{Prices, positionOf}
+use Rattle.hour.specs.Hour.{Prices, positionOf, legs}
 use Rattle.hour.specs.Surplus.{shareKw}
+use Rattle.hour.specs.declared.Edition.{Edition}
 use Rattle.hour.specs.declared.Row.{Row}
 use Rattle.hour.specs.declared.Transaction.{Transaction}
 
 -- every participant's total is what the tariff charges it, and its share what its rows count
-pub record Charged (prices : Prices) (rows : List Row) (transactions : List Transaction) (totals : List ℤ) : Type 0 where
-  pub each : (p : ℕ) → totals at p ≡ charge prices (map positionOf rows) transactions p
+pub record Charged (edition : Edition) (prices : Prices) (rows : List Row) (transactions : List Transaction) (totals : List ℤ) : Type 0 where
+  pub each : (p : ℕ) → totals at p ≡ charge prices (map positionOf rows ++ legs edition transactions) transactions p
 
 pub record Shared (rows : List Row) (shares : List ℤ) : Type 0 where
   pub each : (p : ℕ) → shares at p ≡ owed (λ r. r .participant) shareKw rows p
@@ -48,7 +49,7 @@ sharesMost = 40960000000
 abbrev pub rowsMost : ℕ
 rowsMost = 4915200000000000000
 
--- .. and 256 transactions, which have two weights each: below 2 ^ 63
+-- .. and 256 transactions, which have two weights each, of their path or of buyer and seller: below 2 ^ 63
 abbrev pub hourMost : ℕ
 hourMost = 6144000000000000000
 

@@ -8,6 +8,7 @@ pub mod InsideCause
 pub mod InsideParts
 pub mod InsideTotals
 pub mod CasesCharges
+pub mod CasesLegs
 pub mod CasesSurplus
 pub mod CasesOrder
 pub mod CasesCause

@@ -55,28 +55,38 @@ rowRefusal participants locations row =
 unfoldable pub packedRowRefusal : ℕ → ℕ → Row → ℕ → ℕ
 packedRowRefusal participants locations row spare = rowRefusal participants locations row then unless (eqb spare 0) 9 0
 
--- `spare i` are the spare bits beside row i. An hour that no file holds has none: there it is 0 for each
-unfoldable pub rowsRefusal : Hour → (ℕ → ℕ) → ℕ
-rowsRefusal hour spare = inOrder (λ i row. packedRowRefusal (hour .participants) (hour .locations) row (spare i)) 0 (hour .rows)
+-- the spare bits beside row i, and beside transaction i. An hour that no file holds has none: there they are 0
+pub record Spare : Type 0 where
+  pub row : ℕ → ℕ
+  pub transaction : ℕ → ℕ
 
--- ---- "transactions in turn (4; 3 participant, source, sink; 2)"
+unfoldable pub rowsRefusal : Hour → Spare → ℕ
+rowsRefusal hour spare = inOrder (λ i row. packedRowRefusal (hour .participants) (hour .locations) row (spare .row i)) 0 (hour .rows)
 
+-- ---- "transactions in turn (4; 3 participant, source, sink; 2)"; document 02, ticket 2: "seller 3, after the participant; spare bits 9, after the kW"
+
+-- in edition 0 the seller is 0, and the test of the participant before it has shown that there is such a one
 unfoldable pub transactionRefusal : ℕ → ℕ → Transaction → ℕ
 transactionRefusal participants locations transaction =
     unless (hasInterval (transaction .market) (transaction .interval)) 4
     (unless (ltb (transaction .participant) participants) 3
+    (unless (ltb (transaction .seller) participants) 3
     (unless (ltb (transaction .source) locations) 3
     (unless (ltb (transaction .sink) locations) 3
     (unless (leb (transaction .kw .0) 20000000) 2
-    0))))
+    0)))))
 
-unfoldable pub transactionsRefusal : Hour → ℕ
-transactionsRefusal hour = inOrder (λ _ transaction. transactionRefusal (hour .participants) (hour .locations) transaction) 0 (hour .transactions)
+unfoldable pub packedTransactionRefusal : ℕ → ℕ → Transaction → ℕ → ℕ
+packedTransactionRefusal participants locations transaction spare = transactionRefusal participants locations transaction then unless (eqb spare 0) 9 0
+
+unfoldable pub transactionsRefusal : Hour → Spare → ℕ
+transactionsRefusal hour spare =
+    inOrder (λ i transaction. packedTransactionRefusal (hour .participants) (hour .locations) transaction (spare .transaction i)) 0 (hour .transactions)
 
 -- ---- "2 prices; rows in turn (..); transactions in turn (..)"
 
-unfoldable pub contentRefusal : Hour → (ℕ → ℕ) → ℕ
-contentRefusal hour spare = pricesRefusal hour then rowsRefusal hour spare then transactionsRefusal hour
+unfoldable pub contentRefusal : Hour → Spare → ℕ
+contentRefusal hour spare = pricesRefusal hour then rowsRefusal hour spare then transactionsRefusal hour spare
 
 -- ---- "10; 7"
 

@@ -15,7 +15,8 @@ use Rattle.hour.specs.declared.Row.{Row}
 unfoldable pub surplus : Hour → ℤ
 surplus hour = sumTo (lossCharge hour) (hour .participants)
 
--- "It is split over the participants by real-time load and exports (document 002: load plus exports)". Decrement bids are neither
+-- "It is split over the participants by real-time load and exports (document 002: load plus exports)". Decrement bids are neither, and document 02, ticket 2: "Legs aren't
+-- load or exports in the surplus", which goes by the rows
 abbrev pub isShare : ℕ → ℕ → Bool
 isShare market kind = eqb market realTime && (eqb kind load || eqb kind export)
 

@@ -29,11 +29,18 @@ pub struct Row {
     pub kw: Kw,
 }
 
-// What a participant carries from a source to a sink.
+// The editions of an hour (document 02, ticket 2): a transaction is its path alone, or also a sale, which names its seller.
+pub enum Edition {
+    PathOnly,
+    WithSeller,
+}
+
+// What a participant carries from a source to a sink; with a seller, what it buys. Where there is none the seller is 0, and says nothing.
 pub struct Transaction {
     pub market: u8,
     pub interval: u8,
     pub participant: u8,
+    pub seller: u8,
     pub source: u16,
     pub sink: u16,
     pub kw: Kw,

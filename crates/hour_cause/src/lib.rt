@@ -132,7 +132,7 @@ pub fn row_cause(
     )
 }
 
-// Transaction i of these numbers.
+// Transaction i of these numbers, with its spare bits.
 pub fn transaction_cause(
     participants: u64,
     locations: u64,
@@ -140,12 +140,14 @@ pub fn transaction_cause(
     market: u64,
     interval: u64,
     participant: u64,
+    seller: u64,
     source: u64,
     sink: u64,
     kw: u64,
+    spare: u64,
 ) -> Cause
     requires { ⌜ (1 ≤ participants) × (participants ≤ 64) × (1 ≤ locations) × (locations ≤ 64) ⌝ }
-    ensures { λ r. ⌜ r ≡ transactionCause participants locations i (record { market = market; interval = interval; participant = participant; source = source; sink = sink; kw = record { 0 = kw } }) ⌝ }
+    ensures { λ r. ⌜ r ≡ transactionCause participants locations i (record { market = market; interval = interval; participant = participant; seller = seller; source = source; sink = sink; kw = record { 0 = kw } }) spare ⌝ }
 {
     first_of(
         below(4, 5, i, 0, market, 2),
@@ -154,10 +156,16 @@ pub fn transaction_cause(
             first_of(
                 below(3, 5, i, 2, participant, participants),
                 first_of(
-                    below(3, 5, i, 3, source, locations),
+                    below(3, 5, i, 6, seller, participants),
                     first_of(
-                        below(3, 5, i, 4, sink, locations),
-                        below(2, 5, i, 5, kw, 20_000_001),
+                        below(3, 5, i, 3, source, locations),
+                        first_of(
+                            below(3, 5, i, 4, sink, locations),
+                            first_of(
+                                below(2, 5, i, 5, kw, 20_000_001),
+                                below(9, 5, i, 7, spare, 1),
+                            ),
+                        ),
                     ),
                 ),
             ),

@@ -8,6 +8,7 @@ use Rattle.exercise.specs.declared.DecodedRow.{DecodedRow}
 use Rattle.exercise.specs.declared.DecodedRow.the-variants as DecodedRow
 use Rattle.exercise.specs.declared.DecodedTransaction.{DecodedTransaction}
 use Rattle.exercise.specs.declared.DecodedTransaction.the-variants as DecodedTransaction
+use Rattle.hour.specs.declared.Edition.{Edition}
 use Rattle.hour.specs.declared.Row.{Row}
 use Rattle.hour.specs.declared.Transaction.{Transaction}
 use Rattle.exercise.proofs.Answers.{row-decoded, transaction-decoded}
@@ -24,10 +25,11 @@ module _ (participants locations : ℕ) (few : participants ≤ 64) (s : List �
     row-passed = let t = row-decoded participants locations s i r (sym e ∙ q) in
         row-wider few (subst (RowTested participants locations) (t .1) (row-at-tested participants locations s i (t .0)))
 
-  module _ (d : DecodedTransaction) (e : d ≡ decodedTransactionAt participants locations s i) (t : Transaction) (q : d ≡ DecodedTransaction.Decoded t) where
-    pub transaction-is : transactionAt s i ≡ t
-    transaction-is = transaction-decoded participants locations s i t (sym e ∙ q) .1
+module _ (edition : Edition) (participants locations : ℕ) (few : participants ≤ 64) (s : List ℕ) (i : ℕ) where
+  module _ (d : DecodedTransaction) (e : d ≡ decodedTransactionAt edition participants locations s i) (t : Transaction) (q : d ≡ DecodedTransaction.Decoded t) where
+    pub transaction-is : transactionAt edition s i ≡ t
+    transaction-is = transaction-decoded edition participants locations s i t (sym e ∙ q) .1
 
     pub transaction-passed : TransactionTested 64 locations t
-    transaction-passed = let k = transaction-decoded participants locations s i t (sym e ∙ q) in
-        transaction-wider few (subst (TransactionTested participants locations) (k .1) (transaction-at-tested participants locations s i (k .0)))
+    transaction-passed = let k = transaction-decoded edition participants locations s i t (sym e ∙ q) in
+        transaction-wider few (subst (TransactionTested participants locations) (k .1) (transaction-at-tested edition participants locations s i (k .0)))

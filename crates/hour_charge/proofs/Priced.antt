@@ -9,6 +9,7 @@ use lib.Seq.{length-take-le}
 use Rattle.ints.specs.InsideRange.{InRange}
 use Rattle.ints.specs.Table.{_at_, all}
 use Rattle.ints.proofs.Ranges.{cut-range}
+use Rattle.hour.specs.declared.Edition.{Edition}
 use Rattle.hour.specs.declared.Row.{Row}
 use Rattle.hour.specs.declared.Transaction.{Transaction}
 use Rattle.exercise.specs.File.{pricesFrom}
@@ -66,5 +67,5 @@ module _ (prices : List ℕ) (n : ℕ) (table : List ℤ) (e : table ≡ pricesF
   table-range none = subst (λ (xs : List ℤ). InRange xs 5000000) (sym e) (record { each = prices-within prices (26 * n) none 0 (26 * n) (omega arith) })
 
 -- charges at the one are charges at the other
-pub at-prices : {prices other : Prices} {rows : List Row} {transactions : List Transaction} {totals : List ℤ} → prices ≡ other → Charged prices rows transactions totals → Charged other rows transactions totals
-at-prices {rows = rows} {transactions = transactions} {totals = totals} e = subst (λ (x : Prices). Charged x rows transactions totals) e
+pub at-prices : {edition : Edition} {prices other : Prices} {rows : List Row} {transactions : List Transaction} {totals : List ℤ} → prices ≡ other → Charged edition prices rows transactions totals → Charged edition other rows transactions totals
+at-prices {edition = edition} {rows = rows} {transactions = transactions} {totals = totals} e = subst (λ (x : Prices). Charged edition x rows transactions totals) e

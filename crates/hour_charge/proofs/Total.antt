@@ -1,40 +1,44 @@
 -- What was added, row by row and transaction by transaction, is the tariff's charge. Assumes nothing.
 use mathlib.Core.Path.{_≡_, ap, ap₂, _∙_}
-use mathlib.Core.List.{List, map}
+use mathlib.Core.List.{List, map, _++_}
 use Prim.Native.Nat.{ℕ, _<_}
 use lib.Dec.{eqb}
-use lib.IntN.{ℤ, pos, _+ℤ_, _-ℤ_, _*ℤ_}
+use lib.IntN.{ℤ, pos, _+ℤ_, _*ℤ_}
 use Rattle.ints.specs.Each.{Every}
 use Rattle.ints.specs.InsideEvery.{owed}
 use Rattle.ints.specs.Refusal.{pick}
+use Rattle.ints.specs.Sum.{Σℤ}
 use Rattle.ints.specs.Table.{_at_, tab}
 use Rattle.ints.proofs.Adding.{owed-ext}
+use Rattle.ints.proofs.Gather.{Σ-ext-on}
 use Rattle.ints.proofs.Tables.{getD-tab}
 use Rattle.ints.proofs.Turns.{then-none}
 use Rattle.exercise.specs.File.{rowsIn, transactionsIn}
 use Rattle.hour.specs.InsideTested.{RowTested, TransactionTested}
+use Rattle.hour.specs.declared.Edition.{Edition}
 use Rattle.hour.specs.declared.Row.{Row}
 use Rattle.hour.specs.declared.Transaction.{Transaction}
 use Rattle.exercise.proofs.Tested.{rows-tested, transactions-tested}
 use Rattle.exercise.specs.declared.Header.{Header}
-use Rattle.hour.specs.InsideParts.{sign, aheadWeight, weight, weightIn, positionPart, transactionPart}
-use Rattle.hour.specs.Hour.{withdraws, Prices, priceList, intervalOf, positionOf}
+use Rattle.hour.specs.InsideParts.{sign, aheadWeight, weight, weightIn, positionPart, addsTo}
+use Rattle.hour.specs.Hour.{withdraws, Prices, priceList, intervalOf, positionOf, legs}
 use Rattle.hour.specs.Charges.{charge}
-use Rattle.hour_totals.specs.Inside.{partIn, pathPartIn}
-use Rattle.hour_charge.specs.Inside.{BothAdded}
-use Rattle.hour.specs.InsideTotals.{Charged}
+use Rattle.exercise.specs.Layout.{editionOf}
+use Rattle.hour.proofs.Legs.{adds-ext}
+use Rattle.hour_totals.specs.Inside.{partIn}
+use Rattle.hour_charge.specs.Inside.{BothAdded, ChargedIn}
 use Rattle.hour.proofs.Theorems.{parts-charge}
 use Rattle.exercise.specs.Inside.{rowsInRefusal, transactionsInRefusal, bothRefusal}
 
 module _ (h : Header) (rows transactions : List ℕ) (none : bothRefusal h rows transactions ≡ 0) where
-  accepted : (rowsInRefusal (h .participants) (h .locations) rows (h .rows) ≡ 0) × (transactionsInRefusal (h .participants) (h .locations) transactions (h .transactions) ≡ 0)
-  accepted = then-none (rowsInRefusal (h .participants) (h .locations) rows (h .rows)) (transactionsInRefusal (h .participants) (h .locations) transactions (h .transactions)) none
+  accepted : (rowsInRefusal (h .participants) (h .locations) rows (h .rows) ≡ 0) × (transactionsInRefusal (editionOf (h .edition)) (h .participants) (h .locations) transactions (h .transactions) ≡ 0)
+  accepted = then-none (rowsInRefusal (h .participants) (h .locations) rows (h .rows)) (transactionsInRefusal (editionOf (h .edition)) (h .participants) (h .locations) transactions (h .transactions)) none
 
   pub rows-passed : Every (RowTested (h .participants) (h .locations)) (rowsIn rows (h .rows))
   rows-passed = rows-tested (h .participants) (h .locations) rows (h .rows) (accepted .0)
 
-  pub transactions-passed : Every (TransactionTested (h .participants) (h .locations)) (transactionsIn transactions (h .transactions))
-  transactions-passed = transactions-tested (h .participants) (h .locations) transactions (h .transactions) (accepted .1)
+  pub transactions-passed : Every (TransactionTested (h .participants) (h .locations)) (transactionsIn (editionOf (h .edition)) transactions (h .transactions))
+  transactions-passed = transactions-tested (editionOf (h .edition)) (h .participants) (h .locations) transactions (h .transactions) (accepted .1)
 
 module _ (h : Header) (ahead later weights real : List ℤ) (e : weights ≡ tab (aheadWeight (priceList (h .locations) ahead later)) (h .locations)) (f : real ≡ later) where
   abbrev prices : Prices
@@ -51,22 +55,25 @@ module _ (h : Header) (ahead later weights real : List ℤ) (e : weights ≡ tab
   unfolding positionPart
   part-is r t = ap (λ (w : ℤ). sign (withdraws (r .kind)) *ℤ pos (r .kw .0) *ℤ w) (weight-is (r .market) (r .interval) (r .location) (t .location))
 
-  path-part-is : (t : Transaction) → TransactionTested (h .participants) (h .locations) t → pathPartIn weights real (h .locations) t ≡ transactionPart prices t
-  unfolding transactionPart
-  path-part-is t q =
-      ap (λ (w : ℤ). pos (t .kw .0) *ℤ w)
-      (ap₂ _-ℤ_ (weight-is (t .market) (t .interval) (t .sink) (q .sink)) (weight-is (t .market) (t .interval) (t .source) (q .source)))
+  adds-is : (t : Transaction) → TransactionTested (h .participants) (h .locations) t → (p : ℕ)
+      → addsTo (editionOf (h .edition)) (weightIn weights real (h .locations)) t p ≡ addsTo (editionOf (h .edition)) (weight prices) t p
+  adds-is t q p =
+      adds-ext (weightIn weights real (h .locations)) (weight prices) (editionOf (h .edition)) t
+      (weight-is (t .market) (t .interval) (t .sink) (q .sink)) (weight-is (t .market) (t .interval) (t .source) (q .source)) p
 
   -- so they add up to the charge
   module _ (rows transactions : List ℕ) (none : bothRefusal h rows transactions ≡ 0) where
-    pub sums-to : (p : ℕ) → owed (λ r. r .participant) (partIn weights real (h .locations)) (rowsIn rows (h .rows)) p +ℤ owed (λ t. t .participant) (pathPartIn weights real (h .locations)) (transactionsIn transactions (h .transactions)) p
-        ≡ charge prices (map positionOf (rowsIn rows (h .rows))) (transactionsIn transactions (h .transactions)) p
+    abbrev edition : Edition
+    edition = editionOf (h .edition)
+
+    pub sums-to : (p : ℕ) → owed (λ r. r .participant) (partIn weights real (h .locations)) (rowsIn rows (h .rows)) p +ℤ Σℤ (λ t. addsTo edition (weightIn weights real (h .locations)) t p) (transactionsIn edition transactions (h .transactions))
+        ≡ charge prices (map positionOf (rowsIn rows (h .rows)) ++ legs edition (transactionsIn edition transactions (h .transactions))) (transactionsIn edition transactions (h .transactions)) p
     sums-to p =
         ap₂ _+ℤ_
         (owed-ext (λ r. r .participant) (partIn weights real (h .locations)) (λ r. positionPart prices (positionOf r)) part-is (rowsIn rows (h .rows)) (rows-passed h rows transactions none) p)
-        (owed-ext (λ t. t .participant) (pathPartIn weights real (h .locations)) (transactionPart prices) path-part-is (transactionsIn transactions (h .transactions)) (transactions-passed h rows transactions none) p)
-        ∙ parts-charge (h .participants) prices (rowsIn rows (h .rows)) (transactionsIn transactions (h .transactions)) p
+        (Σ-ext-on _ _ (λ t q. adds-is t q p) (transactionsIn edition transactions (h .transactions)) (transactions-passed h rows transactions none))
+        ∙ parts-charge (h .participants) edition prices (rowsIn rows (h .rows)) (transactionsIn edition transactions (h .transactions)) p
         (rows-passed h rows transactions none) (transactions-passed h rows transactions none)
 
-    pub charged : {totals : List ℤ} → BothAdded h rows transactions weights real totals → Charged prices (rowsIn rows (h .rows)) (transactionsIn transactions (h .transactions)) totals
+    pub charged : {totals : List ℤ} → BothAdded h rows transactions weights real totals → ChargedIn h prices rows transactions totals
     charged added = record { each = λ p. added .each p ∙ sums-to p }

@@ -4,34 +4,42 @@ use mathlib.Core.List.{List}
 use Prim.Native.Nat.{ℕ, _*_, _-_, _≤_}
 use lib.IntN.{ℤ, _+ℤ_}
 use lib.ListN.{length, take, drop}
-use Rattle.ints.specs.InsideEvery.{Added, owed}
+use Rattle.ints.specs.InsideEvery.{toOwner, owed, Added}
+use Rattle.ints.specs.Sum.{Σℤ}
 use Rattle.ints.specs.Table.{_at_}
+use Rattle.exercise.specs.Layout.{transactionSize, editionOf}
 use Rattle.exercise.specs.File.{rowsIn, transactionsIn, priceCount, pricesFrom}
+use Rattle.hour.specs.declared.Edition.{Edition}
 use Rattle.hour.specs.declared.Row.{Row}
 use Rattle.hour.specs.declared.Transaction.{Transaction}
 use Rattle.exercise.specs.declared.Header.{Header}
 use Rattle.hour.specs.Hour.{Prices, priceList}
-use Rattle.hour.specs.Charges.{charge}
-use Rattle.hour.specs.InsideTotals.{Natural}
-use Rattle.hour_totals.specs.Inside.{partIn, pathPartIn}
+use Rattle.hour.specs.InsideParts.{weightIn, addsTo}
+use Rattle.hour.specs.InsideTotals.{Charged}
+use Rattle.hour_totals.specs.Inside.{partIn}
 use Rattle.hour.specs.Surplus.{shareKw}
 
 -- ---- every participant's total with what its rows, or transactions, add
 
 abbrev pub RowsAdded : List Row → ℕ → List ℤ → List ℤ → List ℤ → List ℤ → Type 0
-RowsAdded rows locations weights real before after = Added (λ r. r .participant) (partIn weights real locations) rows before after
+RowsAdded rows locations weights real before after = Added (toOwner (λ r. r .participant) (partIn weights real locations)) rows before after
 
 abbrev pub SharesAdded : List Row → List ℤ → List ℤ → Type 0
-SharesAdded rows before after = Added (λ r. r .participant) shareKw rows before after
+SharesAdded rows before after = Added (toOwner (λ r. r .participant) shareKw) rows before after
 
-abbrev pub TransactionsAdded : List Transaction → ℕ → List ℤ → List ℤ → List ℤ → List ℤ → Type 0
-TransactionsAdded transactions locations weights real before after = Added (λ t. t .participant) (pathPartIn weights real locations) transactions before after
+abbrev pub TransactionsAdded : Edition → List Transaction → ℕ → List ℤ → List ℤ → List ℤ → List ℤ → Type 0
+TransactionsAdded edition transactions locations weights real before after = Added (addsTo edition (weightIn weights real locations)) transactions before after
 
 -- rows, then transactions: what they add to totals that were 0
 pub record BothAdded (h : Header) (rows transactions : List ℕ) (weights real totals : List ℤ) : Type 0 where
   pub each : (p : ℕ) → totals at p
       ≡ owed (λ r. r .participant) (partIn weights real (h .locations)) (rowsIn rows (h .rows)) p
-      +ℤ owed (λ t. t .participant) (pathPartIn weights real (h .locations)) (transactionsIn transactions (h .transactions)) p
+      +ℤ Σℤ (λ t. addsTo (editionOf (h .edition)) (weightIn weights real (h .locations)) t p) (transactionsIn (editionOf (h .edition)) transactions (h .transactions))
+
+-- the rows and transactions of two stretches, charged
+abbrev pub ChargedIn : Header → Prices → List ℕ → List ℕ → List ℤ → Type 0
+ChargedIn h prices rows transactions totals =
+    Charged (editionOf (h .edition)) prices (rowsIn rows (h .rows)) (transactionsIn (editionOf (h .edition)) transactions (h .transactions)) totals
 
 -- ---- a table of all prices of so many locations: the two price lists
 
@@ -50,7 +58,7 @@ pub record Stretches (h : Header) (prices rows transactions : List ℕ) : Type 0
   pub few-transactions : h .transactions ≤ 256
   pub prices-whole : 3 * priceCount h ≤ length prices
   pub rows-whole : 6 * h .rows ≤ length rows
-  pub transactions-whole : 6 * h .transactions ≤ length transactions
+  pub transactions-whole : transactionSize (editionOf (h .edition)) * h .transactions ≤ length transactions
 
 -- the congestion and the loss prices
 abbrev pub congestionIn : Header → List ℕ → Prices

@@ -6,12 +6,13 @@ ghost use Rattle.ints.specs.InsideRange.{InRange};
 ghost use Rattle.ints.specs.Refusal.{lent};
 ghost use Rattle.ints.specs.Table.{tab};
 ghost use Rattle.exercise.specs.File.{rowsIn, transactionsIn, priceCount, hourOf};
+ghost use Rattle.exercise.specs.Layout.{transactionSize, editionOf};
 ghost use Rattle.exercise.specs.Order.{frameRefusal, spareOf};
 ghost use Rattle.hour.specs.Hour.{priceList, congestionPrices, lossPrices};
 ghost use Rattle.hour_weights.specs.Inside.{PriceLists, Tables};
 ghost use Rattle.hour_totals.specs.Inside.{Totals};
 ghost use Rattle.hour.specs.InsideTotals.{rowsMost, Charged, Shared};
-ghost use Rattle.hour_charge.specs.Inside.{RowsAdded, SharesAdded, TransactionsAdded, BothAdded, congestionCut, lossCut, Stretches, congestionIn, lossIn};
+ghost use Rattle.hour_charge.specs.Inside.{RowsAdded, SharesAdded, TransactionsAdded, BothAdded, ChargedIn, congestionCut, lossCut, Stretches, congestionIn, lossIn};
 ghost use Rattle.hour.specs.Charges.{exactCongestion, exactLoss};
 ghost use Rattle.hour.specs.Surplus.{shareOf};
 ghost use Rattle.exercise.specs.Inside.{rowsInRefusal, transactionsInRefusal, bothRefusal, stretchesRefusal};
@@ -19,6 +20,7 @@ ghost use Rattle.hour.specs.Order.{contentRefusal};
 use exercise::DecodedRow;
 use exercise::DecodedTransaction;
 use exercise::Header;
+use hour::Edition;
 
 // ---- rows and transactions in turn: each is read once, and counts for congestion and for losses
 
@@ -66,6 +68,7 @@ fn charge_rows(
 
 // The first n transactions of a stretch, up to the first refused one: its refusal, or 0.
 fn charge_transactions(
+    edition: Edition,
     participants: usize,
     locations: usize,
     transactions: &[u8],
@@ -77,27 +80,41 @@ fn charge_transactions(
     exact_congestion: &mut [i64],
     exact_loss: &mut [i64],
 ) -> u32
-    requires { ⌜ (participants ≤ 64) × (n ≤ 256) × (6 * n ≤ length (now transactions)) ⌝ }
+    requires { ⌜ (participants ≤ 64) × (n ≤ 256) × (transactionSize edition * n ≤ length (now transactions)) ⌝ }
     requires { ⌜ Tables locations (now «congestion_weights») (now «congestion_real») × Tables locations (now «loss_weights») (now «loss_real») ⌝ }
     requires { ⌜ Totals (now «exact_congestion») rowsMost × Totals (now «exact_loss») rowsMost ⌝ }
-    ensures { λ r. ⌜ r ≡ transactionsInRefusal participants locations (now (transactions .entry)) n ⌝ }
-    ensures { λ r. ⌜ (r ≡ 0 → TransactionsAdded (transactionsIn (now (transactions .entry)) n) locations (now («congestion_weights» .entry)) (now («congestion_real» .entry)) (now («exact_congestion» .entry)) (now («exact_congestion» .exit))) ⌝ }
-    ensures { λ r. ⌜ (r ≡ 0 → TransactionsAdded (transactionsIn (now (transactions .entry)) n) locations (now («loss_weights» .entry)) (now («loss_real» .entry)) (now («exact_loss» .entry)) (now («exact_loss» .exit))) ⌝ }
+    ensures { λ r. ⌜ r ≡ transactionsInRefusal edition participants locations (now (transactions .entry)) n ⌝ }
+    ensures { λ r. ⌜ (r ≡ 0 → TransactionsAdded edition (transactionsIn edition (now (transactions .entry)) n) locations (now («congestion_weights» .entry)) (now («congestion_real» .entry)) (now («exact_congestion» .entry)) (now («exact_congestion» .exit))) ⌝ }
+    ensures { λ r. ⌜ (r ≡ 0 → TransactionsAdded edition (transactionsIn edition (now (transactions .entry)) n) locations (now («loss_weights» .entry)) (now («loss_real» .entry)) (now («exact_loss» .entry)) (now («exact_loss» .exit))) ⌝ }
 {
     let mut i: usize = 0;
     while i < n {
-        let decoded = exercise_rows::transaction_at(participants, locations, transactions, i);
+        let decoded = exercise_rows::transaction_at(
+            edition,
+            participants,
+            locations,
+            transactions,
+            i,
+        );
         let DecodedTransaction::Decoded(transaction) = decoded else {
             return exercise_rows::decoded_transaction_refusal(decoded);
         };
         hour_totals::add_transaction(
+            edition,
             transaction,
             locations,
             congestion_weights,
             congestion_real,
             exact_congestion,
         );
-        hour_totals::add_transaction(transaction, locations, loss_weights, loss_real, exact_loss);
+        hour_totals::add_transaction(
+            edition,
+            transaction,
+            locations,
+            loss_weights,
+            loss_real,
+            exact_loss,
+        );
         i += 1;
     }
     0
@@ -116,7 +133,7 @@ fn charge_both(
     exact_loss: &mut [i64],
     shares: &mut [i64],
 ) -> u32
-    requires { ⌜ (header .participants ≤ 64) × (header .rows ≤ 2048) × (header .transactions ≤ 256) × (6 * header .rows ≤ length (now rows)) × (6 * header .transactions ≤ length (now transactions)) ⌝ }
+    requires { ⌜ (header .participants ≤ 64) × (header .rows ≤ 2048) × (header .transactions ≤ 256) × (6 * header .rows ≤ length (now rows)) × (transactionSize (editionOf (header .edition)) * header .transactions ≤ length (now transactions)) ⌝ }
     requires { ⌜ Tables (header .locations) (now «congestion_weights») (now «congestion_real») × Tables (header .locations) (now «loss_weights») (now «loss_real») ⌝ }
     requires { ⌜ Totals (now «exact_congestion») 0 × Totals (now «exact_loss») 0 × Totals (now shares) 0 ⌝ }
     ensures { λ r. ⌜ r ≡ bothRefusal header (now (rows .entry)) (now (transactions .entry)) ⌝ }
@@ -141,6 +158,7 @@ fn charge_both(
         return refusal;
     }
     charge_transactions(
+        exercise_editions::edition_of(header.edition as u64),
         header.participants,
         header.locations,
         transactions,
@@ -170,13 +188,13 @@ fn charge_listed(
     exact_loss: &mut [i64],
     shares: &mut [i64],
 ) -> u32
-    requires { ⌜ (header .participants ≤ 64) × (header .rows ≤ 2048) × (header .transactions ≤ 256) × (6 * header .rows ≤ length (now rows)) × (6 * header .transactions ≤ length (now transactions)) ⌝ }
+    requires { ⌜ (header .participants ≤ 64) × (header .rows ≤ 2048) × (header .transactions ≤ 256) × (6 * header .rows ≤ length (now rows)) × (transactionSize (editionOf (header .edition)) * header .transactions ≤ length (now transactions)) ⌝ }
     requires { ⌜ PriceLists (header .locations) (now «congestion_ahead») (now «congestion_real») × PriceLists (header .locations) (now «loss_ahead») (now «loss_real») ⌝ }
     requires { ⌜ (length (now «congestion_weights») ≡ header .locations) × (length (now «loss_weights») ≡ header .locations) ⌝ }
     requires { ⌜ Totals (now «exact_congestion») 0 × Totals (now «exact_loss») 0 × Totals (now shares) 0 ⌝ }
     ensures { λ r. ⌜ r ≡ bothRefusal header (now (rows .entry)) (now (transactions .entry)) ⌝ }
-    ensures { λ r. ⌜ (r ≡ 0 → Charged (priceList (header .locations) (now («congestion_ahead» .entry)) (now («congestion_real» .entry))) (rowsIn (now (rows .entry)) (header .rows)) (transactionsIn (now (transactions .entry)) (header .transactions)) (now («exact_congestion» .exit))) ⌝ }
-    ensures { λ r. ⌜ (r ≡ 0 → Charged (priceList (header .locations) (now («loss_ahead» .entry)) (now («loss_real» .entry))) (rowsIn (now (rows .entry)) (header .rows)) (transactionsIn (now (transactions .entry)) (header .transactions)) (now («exact_loss» .exit))) ⌝ }
+    ensures { λ r. ⌜ (r ≡ 0 → ChargedIn header (priceList (header .locations) (now («congestion_ahead» .entry)) (now («congestion_real» .entry))) (now (rows .entry)) (now (transactions .entry)) (now («exact_congestion» .exit))) ⌝ }
+    ensures { λ r. ⌜ (r ≡ 0 → ChargedIn header (priceList (header .locations) (now («loss_ahead» .entry)) (now («loss_real» .entry))) (now (rows .entry)) (now (transactions .entry)) (now («exact_loss» .exit))) ⌝ }
     ensures { λ r. ⌜ (r ≡ 0 → Shared (rowsIn (now (rows .entry)) (header .rows)) (now (shares .exit))) ⌝ }
 {
     hour_weights::weigh(congestion_ahead, congestion_real, congestion_weights);
@@ -207,13 +225,13 @@ fn charge_table(
     exact_loss: &mut [i64],
     shares: &mut [i64],
 ) -> u32
-    requires { ⌜ (header .participants ≤ 64) × (header .rows ≤ 2048) × (header .transactions ≤ 256) × (6 * header .rows ≤ length (now rows)) × (6 * header .transactions ≤ length (now transactions)) ⌝ }
+    requires { ⌜ (header .participants ≤ 64) × (header .rows ≤ 2048) × (header .transactions ≤ 256) × (6 * header .rows ≤ length (now rows)) × (transactionSize (editionOf (header .edition)) * header .transactions ≤ length (now transactions)) ⌝ }
     requires { ⌜ (header .locations ≤ 64) × (length (now table) ≡ priceCount header) × InRange (now table) 5000000 ⌝ }
     requires { ⌜ (length (now «congestion_weights») ≡ header .locations) × (length (now «loss_weights») ≡ header .locations) ⌝ }
     requires { ⌜ Totals (now «exact_congestion») 0 × Totals (now «exact_loss») 0 × Totals (now shares) 0 ⌝ }
     ensures { λ r. ⌜ r ≡ bothRefusal header (now (rows .entry)) (now (transactions .entry)) ⌝ }
-    ensures { λ r. ⌜ (r ≡ 0 → Charged (congestionCut (header .locations) (now (table .entry))) (rowsIn (now (rows .entry)) (header .rows)) (transactionsIn (now (transactions .entry)) (header .transactions)) (now («exact_congestion» .exit))) ⌝ }
-    ensures { λ r. ⌜ (r ≡ 0 → Charged (lossCut (header .locations) (now (table .entry))) (rowsIn (now (rows .entry)) (header .rows)) (transactionsIn (now (transactions .entry)) (header .transactions)) (now («exact_loss» .exit))) ⌝ }
+    ensures { λ r. ⌜ (r ≡ 0 → ChargedIn header (congestionCut (header .locations) (now (table .entry))) (now (rows .entry)) (now (transactions .entry)) (now («exact_congestion» .exit))) ⌝ }
+    ensures { λ r. ⌜ (r ≡ 0 → ChargedIn header (lossCut (header .locations) (now (table .entry))) (now (rows .entry)) (now (transactions .entry)) (now («exact_loss» .exit))) ⌝ }
     ensures { λ r. ⌜ (r ≡ 0 → Shared (rowsIn (now (rows .entry)) (header .rows)) (now (shares .exit))) ⌝ }
 {
     let n = header.locations;
@@ -256,8 +274,8 @@ fn charge_priced(
     requires { ⌜ (length (now table) ≡ priceCount header) × (length (now «congestion_weights») ≡ header .locations) × (length (now «loss_weights») ≡ header .locations) ⌝ }
     requires { ⌜ Totals (now «exact_congestion») 0 × Totals (now «exact_loss») 0 × Totals (now shares) 0 ⌝ }
     ensures { λ r. ⌜ r ≡ stretchesRefusal header (now (prices .entry)) (now (rows .entry)) (now (transactions .entry)) ⌝ }
-    ensures { λ r. ⌜ (r ≡ 0 → Charged (congestionIn header (now (prices .entry))) (rowsIn (now (rows .entry)) (header .rows)) (transactionsIn (now (transactions .entry)) (header .transactions)) (now («exact_congestion» .exit))) ⌝ }
-    ensures { λ r. ⌜ (r ≡ 0 → Charged (lossIn header (now (prices .entry))) (rowsIn (now (rows .entry)) (header .rows)) (transactionsIn (now (transactions .entry)) (header .transactions)) (now («exact_loss» .exit))) ⌝ }
+    ensures { λ r. ⌜ (r ≡ 0 → ChargedIn header (congestionIn header (now (prices .entry))) (now (rows .entry)) (now (transactions .entry)) (now («exact_congestion» .exit))) ⌝ }
+    ensures { λ r. ⌜ (r ≡ 0 → ChargedIn header (lossIn header (now (prices .entry))) (now (rows .entry)) (now (transactions .entry)) (now («exact_loss» .exit))) ⌝ }
     ensures { λ r. ⌜ (r ≡ 0 → Shared (rowsIn (now (rows .entry)) (header .rows)) (now (shares .exit))) ⌝ }
 {
     let refusal = exercise_prices::read_table(prices, table);
@@ -290,8 +308,8 @@ fn charge_stretches(
     requires { ⌜ Stretches header (now prices) (now rows) (now transactions) ⌝ }
     requires { ⌜ Totals (now «exact_congestion») 0 × Totals (now «exact_loss») 0 × Totals (now shares) 0 ⌝ }
     ensures { λ r. ⌜ r ≡ stretchesRefusal header (now (prices .entry)) (now (rows .entry)) (now (transactions .entry)) ⌝ }
-    ensures { λ r. ⌜ (r ≡ 0 → Charged (congestionIn header (now (prices .entry))) (rowsIn (now (rows .entry)) (header .rows)) (transactionsIn (now (transactions .entry)) (header .transactions)) (now («exact_congestion» .exit))) ⌝ }
-    ensures { λ r. ⌜ (r ≡ 0 → Charged (lossIn header (now (prices .entry))) (rowsIn (now (rows .entry)) (header .rows)) (transactionsIn (now (transactions .entry)) (header .transactions)) (now («exact_loss» .exit))) ⌝ }
+    ensures { λ r. ⌜ (r ≡ 0 → ChargedIn header (congestionIn header (now (prices .entry))) (now (rows .entry)) (now (transactions .entry)) (now («exact_congestion» .exit))) ⌝ }
+    ensures { λ r. ⌜ (r ≡ 0 → ChargedIn header (lossIn header (now (prices .entry))) (now (rows .entry)) (now (transactions .entry)) (now («exact_loss» .exit))) ⌝ }
     ensures { λ r. ⌜ (r ≡ 0 → Shared (rowsIn (now (rows .entry)) (header .rows)) (now (shares .exit))) ⌝ }
 {
     let mut table = [0i64; 1664];
@@ -325,8 +343,8 @@ fn charge_file(
     requires { ⌜ frameRefusal (now file) ≡ 0 ⌝ }
     requires { ⌜ Totals (now «exact_congestion») 0 × Totals (now «exact_loss») 0 × Totals (now shares) 0 ⌝ }
     ensures { λ r. ⌜ r ≡ contentRefusal (hourOf (now (file .entry))) (spareOf (now (file .entry))) ⌝ }
-    ensures { λ r. ⌜ (r ≡ 0 → Charged (congestionPrices (hourOf (now (file .entry)))) (hourOf (now (file .entry)) .rows) (hourOf (now (file .entry)) .transactions) (now («exact_congestion» .exit))) ⌝ }
-    ensures { λ r. ⌜ (r ≡ 0 → Charged (lossPrices (hourOf (now (file .entry)))) (hourOf (now (file .entry)) .rows) (hourOf (now (file .entry)) .transactions) (now («exact_loss» .exit))) ⌝ }
+    ensures { λ r. ⌜ (r ≡ 0 → Charged (hourOf (now (file .entry)) .edition) (congestionPrices (hourOf (now (file .entry)))) (hourOf (now (file .entry)) .rows) (hourOf (now (file .entry)) .transactions) (now («exact_congestion» .exit))) ⌝ }
+    ensures { λ r. ⌜ (r ≡ 0 → Charged (hourOf (now (file .entry)) .edition) (lossPrices (hourOf (now (file .entry)))) (hourOf (now (file .entry)) .rows) (hourOf (now (file .entry)) .transactions) (now («exact_loss» .exit))) ⌝ }
     ensures { λ r. ⌜ (r ≡ 0 → Shared (hourOf (now (file .entry)) .rows) (now (shares .exit))) ⌝ }
 {
     let header = exercise_file::read_header(file);

@@ -6,7 +6,7 @@ use Rattle.ints.proofs.Unique.{unique}
 use Rattle.hour_row_refusals.proofs.packed_row_refusal.Reads as packed-row-refusal
 use Rattle.hour_row_refusals.proofs.row_numbers_refusal.Reads as row-numbers-refusal
 use Rattle.hour_row_refusals.proofs.transaction_numbers_refusal.Reads as transaction-numbers-refusal
-use Rattle.hour_row_refusals.proofs.transaction_refusal.Reads as transaction-refusal
+use Rattle.hour_row_refusals.proofs.packed_transaction_refusal.Reads as packed-transaction-refusal
 
 pub row-numbers-refusal-unique : (a : _) (r s : ℕ) (e f : _) → row-numbers-refusal.Post tt a r e → row-numbers-refusal.Post tt a s f → r ≡ s
 row-numbers-refusal-unique a r s e f p q = unique p q
@@ -17,5 +17,5 @@ transaction-numbers-refusal-unique a r s e f p q = unique p q
 pub packed-row-refusal-unique : (a : _) (r s : ℕ) (e f : _) → packed-row-refusal.Post tt a r e → packed-row-refusal.Post tt a s f → r ≡ s
 packed-row-refusal-unique a r s e f p q = unique p q
 
-pub transaction-refusal-unique : (a : _) (r s : ℕ) (e f : _) → transaction-refusal.Post tt a r e → transaction-refusal.Post tt a s f → r ≡ s
-transaction-refusal-unique a r s e f p q = unique p q
+pub packed-transaction-refusal-unique : (a : _) (r s : ℕ) (e f : _) → packed-transaction-refusal.Post tt a r e → packed-transaction-refusal.Post tt a s f → r ≡ s
+packed-transaction-refusal-unique a r s e f p q = unique p q

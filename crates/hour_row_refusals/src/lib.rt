@@ -1,7 +1,7 @@
 // What is refused of a row, and of a transaction (document 01, "Order for an hour"). Their numbers are wide here, so that those of a file and those that somebody hands
 // over are tested alike.
 ghost use mathlib.Core.Path.{_≡_};
-ghost use Rattle.hour.specs.Order.{hasKind, hasInterval, rowRefusal, packedRowRefusal, transactionRefusal};
+ghost use Rattle.hour.specs.Order.{hasKind, hasInterval, rowRefusal, packedRowRefusal, transactionRefusal, packedTransactionRefusal};
 use hour::DAY_AHEAD;
 use hour::IMPORT;
 use hour::INCREMENT_OFFER;
@@ -97,16 +97,20 @@ pub fn transaction_numbers_refusal(
     market: u64,
     interval: u64,
     participant: u64,
+    seller: u64,
     source: u64,
     sink: u64,
     kw: u64,
 ) -> u32
-    ensures { λ r. ⌜ r ≡ transactionRefusal participants locations (record { market = market; interval = interval; participant = participant; source = source; sink = sink; kw = record { 0 = kw } }) ⌝ }
+    ensures { λ r. ⌜ r ≡ transactionRefusal participants locations (record { market = market; interval = interval; participant = participant; seller = seller; source = source; sink = sink; kw = record { 0 = kw } }) ⌝ }
 {
     if !has_interval(market, interval) {
         return 4;
     }
     if participants <= participant {
+        return 3;
+    }
+    if participants <= seller {
         return 3;
     }
     if source >= locations {
@@ -121,18 +125,31 @@ pub fn transaction_numbers_refusal(
     0
 }
 
-// The refusal of a transaction, 0 where there is none.
-pub fn transaction_refusal(participants: usize, locations: usize, transaction: Transaction) -> u32
-    ensures { λ r. ⌜ r ≡ transactionRefusal participants locations transaction ⌝ }
+// The refusal of a transaction with the spare bits beside it, 0 where there is none.
+pub fn packed_transaction_refusal(
+    participants: usize,
+    locations: usize,
+    transaction: Transaction,
+    beside: u64,
+) -> u32
+    ensures { λ r. ⌜ r ≡ packedTransactionRefusal participants locations transaction beside ⌝ }
 {
-    transaction_numbers_refusal(
+    let refusal = transaction_numbers_refusal(
         participants as u64,
         locations as u64,
         transaction.market as u64,
         transaction.interval as u64,
         transaction.participant as u64,
+        transaction.seller as u64,
         transaction.source as u64,
         transaction.sink as u64,
         transaction.kw.0 as u64,
-    )
+    );
+    if refusal != 0 {
+        return refusal;
+    }
+    if beside != 0 {
+        return 9;
+    }
+    0
 }

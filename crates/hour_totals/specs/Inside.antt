@@ -2,22 +2,31 @@
 use mathlib.Core.Path.{_≡_}
 use mathlib.Core.List.{List}
 use Prim.Native.Nat.{ℕ, _*_}
-use lib.IntN.{ℤ, pos, _-ℤ_, _*ℤ_}
-use lib.ListN.{length}
+use lib.IntN.{ℤ, pos, _+ℤ_, _*ℤ_}
+use lib.ListN.{length, set}
 use Rattle.ints.specs.InsideRange.{InRange}
+use Rattle.ints.specs.Table.{_at_}
+use Rattle.hour.specs.declared.Edition.{Edition}
+use Rattle.hour.specs.declared.Edition.the-variants as Edition
 use Rattle.hour.specs.declared.Row.{Row}
 use Rattle.hour.specs.declared.Transaction.{Transaction}
 use Rattle.hour.specs.Hour.{withdraws}
-use Rattle.hour.specs.InsideParts.{sign, weightIn}
+use Rattle.hour.specs.InsideParts.{sign, weightIn, buyerPart, sellerPart}
 
--- what a row, and a transaction, adds to its participant's total
+-- what a row adds to its participant's total
 abbrev pub partIn : List ℤ → List ℤ → ℕ → Row → ℤ
 partIn weights real locations r =
     sign (withdraws (r .kind)) *ℤ pos (r .kw .0) *ℤ weightIn weights real locations (r .market) (r .interval) (r .location)
 
-abbrev pub pathPartIn : List ℤ → List ℤ → ℕ → Transaction → ℤ
-pathPartIn weights real locations t =
-    pos (t .kw .0) *ℤ (weightIn weights real locations (t .market) (t .interval) (t .sink) -ℤ weightIn weights real locations (t .market) (t .interval) (t .source))
+-- totals with an amount added to p's
+abbrev pub plus : List ℤ → ℕ → ℤ → List ℤ
+plus totals p amount = set totals p (totals at p +ℤ amount)
+
+-- totals with a transaction's parts, by what a kW counts: to its participant, and with a seller also to that
+unfoldable pub transactionAdded : Edition → (ℕ → ℕ → ℕ → ℤ) → Transaction → List ℤ → List ℤ
+transactionAdded Edition.PathOnly counts t totals = plus totals (t .participant) (buyerPart Edition.PathOnly counts t)
+transactionAdded Edition.WithSeller counts t totals =
+    plus (plus totals (t .participant) (buyerPart Edition.WithSeller counts t)) (t .seller) (sellerPart Edition.WithSeller counts t)
 
 -- ---- a total for each of 64 participants
 

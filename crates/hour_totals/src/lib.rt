@@ -8,13 +8,15 @@ ghost use mir.Val.{SFits};
 ghost use Rattle.ints.specs.InsideRange.{Within};
 ghost use Rattle.ints.specs.Table.{_at_};
 ghost use Rattle.hour.specs.Hour.{withdraws};
-ghost use Rattle.hour.specs.InsideParts.{sign};
+ghost use Rattle.hour.specs.InsideParts.{sign, weightIn};
 ghost use Rattle.hour.specs.InsideTested.{RowTested, TransactionTested};
 ghost use Rattle.hour.specs.Surplus.{isShare, shareKw};
 ghost use Rattle.hour_weights.specs.Inside.{Tables};
-ghost use Rattle.hour_totals.specs.Inside.{Totals, partIn, pathPartIn};
+ghost use Rattle.hour.specs.declared.Edition.the-variants as Edition;
+ghost use Rattle.hour_totals.specs.Inside.{Totals, partIn, transactionAdded};
 ghost use Rattle.hour.specs.InsideTotals.{sharesMost, rowsMost, hourMost};
 use hour::EXPORT;
+use hour::Edition;
 use hour::LOAD;
 use hour::REAL_TIME;
 use hour::Row;
@@ -73,8 +75,8 @@ pub fn add_row(row: Row, locations: usize, weights: &[i64], real: &[i64], totals
     add_amount(totals, row.participant as usize, amount);
 }
 
-// A transaction's part, added to its participant's total.
-pub fn add_transaction(
+// What the path of a transaction costs, added to its participant's total.
+fn add_path(
     transaction: Transaction,
     locations: usize,
     weights: &[i64],
@@ -82,7 +84,7 @@ pub fn add_transaction(
     totals: &mut [i64],
 )
     requires { ⌜ TransactionTested 64 locations transaction × Tables locations (now weights) (now real) × Totals (now totals) hourMost ⌝ }
-    ensures { λ _. ⌜ now (totals .exit) ≡ set (now (totals .entry)) (transaction .participant) (now (totals .entry) at transaction .participant +ℤ pathPartIn (now (weights .entry)) (now (real .entry)) locations transaction) ⌝ }
+    ensures { λ _. ⌜ now (totals .exit) ≡ transactionAdded Edition.PathOnly (weightIn (now (weights .entry)) (now (real .entry)) locations) transaction (now (totals .entry)) ⌝ }
 {
     let sink = hour_weights::weight_of(
         locations,
@@ -102,6 +104,53 @@ pub fn add_transaction(
     );
     let amount = path_part(transaction.kw, sink, source);
     add_amount(totals, transaction.participant as usize, amount);
+}
+
+// The same with a seller, path and legs together. At the sink the participant pays for the path what it is paid for the purchase, so that the source alone is weighed: the
+// participant is reimbursed there what the seller is charged.
+fn add_sale(
+    transaction: Transaction,
+    locations: usize,
+    weights: &[i64],
+    real: &[i64],
+    totals: &mut [i64],
+)
+    requires { ⌜ TransactionTested 64 locations transaction × Tables locations (now weights) (now real) × Totals (now totals) hourMost ⌝ }
+    ensures { λ _. ⌜ now (totals .exit) ≡ transactionAdded Edition.WithSeller (weightIn (now (weights .entry)) (now (real .entry)) locations) transaction (now (totals .entry)) ⌝ }
+{
+    let weight = hour_weights::weight_of(
+        locations,
+        weights,
+        real,
+        transaction.market,
+        transaction.interval,
+        transaction.source,
+    );
+    let amount = units::charge_of(transaction.kw, weight);
+    add_amount(
+        totals,
+        transaction.participant as usize,
+        units::reimbursed(amount),
+    );
+    add_amount(totals, transaction.seller as usize, amount);
+}
+
+// A transaction's parts, added to the totals of those who have a part in it.
+pub fn add_transaction(
+    edition: Edition,
+    transaction: Transaction,
+    locations: usize,
+    weights: &[i64],
+    real: &[i64],
+    totals: &mut [i64],
+)
+    requires { ⌜ TransactionTested 64 locations transaction × Tables locations (now weights) (now real) × Totals (now totals) hourMost ⌝ }
+    ensures { λ _. ⌜ now (totals .exit) ≡ transactionAdded edition (weightIn (now (weights .entry)) (now (real .entry)) locations) transaction (now (totals .entry)) ⌝ }
+{
+    match edition {
+        Edition::PathOnly => add_path(transaction, locations, weights, real, totals),
+        Edition::WithSeller => add_sale(transaction, locations, weights, real, totals),
+    }
 }
 
 // ---- shares

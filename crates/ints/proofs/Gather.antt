@@ -129,6 +129,29 @@ keep-map g t (x ∷ xs) = by (t (g x)) (keep-map g t xs)
     by true e = ap (λ ys. g x ∷ ys) e
     by false e = e
 
+pub map-last : {A B : Type 0} (g : A → B) (xs : List A) (x : A) → map g (xs ++ (x ∷ [])) ≡ map g xs ++ (g x ∷ [])
+map-last g [] x = refl
+map-last {A} {B} g (y ∷ xs) x = ap (λ (zs : List B). g y ∷ zs) (map-last g xs x)
+
+pub keep-append : {A : Type 0} (t : A → Bool) (xs ys : List A) → keep t (xs ++ ys) ≡ keep t xs ++ keep t ys
+unfolding keep
+keep-append t [] ys = refl
+keep-append {A} t (x ∷ xs) ys = by (t x) (keep-append t xs ys)
+  where
+    by : (b : Bool) → keep t (xs ++ ys) ≡ keep t xs ++ keep t ys → pick b (x ∷ keep t (xs ++ ys)) (keep t (xs ++ ys)) ≡ pick b (x ∷ keep t xs) (keep t xs) ++ keep t ys
+    by true e = ap (λ (zs : List A). x ∷ zs) e
+    by false e = e
+
+-- of elements that were chosen before, by a test that leaves no such one out
+pub keep-keep : {A : Type 0} (t u : A → Bool) → ((x : A) → u x ≡ false → t x ≡ false) → (xs : List A) → keep t (keep u xs) ≡ keep t xs
+unfolding keep
+keep-keep t u h [] = refl
+keep-keep {A} t u h (x ∷ xs) = by (u x) refl (keep-keep t u h xs)
+  where
+    by : (b : Bool) → u x ≡ b → keep t (keep u xs) ≡ keep t xs → keep t (pick b (x ∷ keep u xs) (keep u xs)) ≡ pick (t x) (x ∷ keep t xs) (keep t xs)
+    by true e rest = ap (λ (zs : List A). pick (t x) (x ∷ zs) zs) rest
+    by false e rest = rest ∙ sym (ap (λ (b : Bool). pick b (x ∷ keep t xs) (keep t xs)) (h x e))
+
 -- what holds of each holds at each place
 pub every-at : {A : Type 0} (P : A → Type 0) (d : A) → P d → (xs : List A) → Every P xs → (i : ℕ) → P (getD xs i d)
 every-at P d h [] e i = h

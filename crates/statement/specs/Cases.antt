@@ -17,7 +17,7 @@ use Rattle.hour.specs.Charges.{aheadAt, realAt, aheadPath, realPath, positionCh
 use Rattle.exercise.specs.CasesHour.{congested, smallFile, noPrice, highest, heaviest, light}
 use Rattle.hour.specs.Surplus.{surplus, shares, credits, nets}
 use Rattle.statement.specs.Statement.{joined, statementOf}
-use Rattle.hour.specs.Order.{packedRowRefusal, pricesRefusal, rowsRefusal, transactionsRefusal, contentRefusal}
+use Rattle.hour.specs.Order.{packedRowRefusal, packedTransactionRefusal, pricesRefusal, rowsRefusal, transactionsRefusal, contentRefusal}
 
 document-01 : statementOf exercise.statement ≡ ascii "0 0 1000 927 73\n1 0 390 463 -73\ntotal 0 1390 1390 0\n"
 unfolding statementOf hourRefusal joined digitsIn frameRefusal headerRefusal contentRefusal pricesRefusal rowsRefusal transactionsRefusal inOrder tab all packedRowRefusal rowRefusal transactionRefusal surplusRefusal total sumN surplus shares centsOf charge positionCharge pathCharge aheadAt realAt aheadPath realPath Σℤ sumTo header bytesAt placesOf congestionCharges lossCharges credits nets parts part cutDown remainder unitsLeft before place
@@ -25,7 +25,7 @@ document-01 = refl
 
 -- an hour with congestion, and numbers below 0
 congestion : statementOf congested ≡ ascii "0 67 -7 9 51\n1 -30 32 16 -14\ntotal 37 25 25 37\n"
-unfolding statementOf hourRefusal joined digitsIn frameRefusal headerRefusal contentRefusal pricesRefusal rowsRefusal transactionsRefusal inOrder tab all packedRowRefusal rowRefusal transactionRefusal surplusRefusal total sumN surplus shares centsOf charge positionCharge pathCharge aheadAt realAt aheadPath realPath Σℤ sumTo header bytesAt placesOf congestionCharges lossCharges credits nets parts part cutDown remainder unitsLeft before place
+unfolding statementOf hourRefusal joined digitsIn frameRefusal headerRefusal contentRefusal pricesRefusal rowsRefusal transactionsRefusal inOrder tab all packedRowRefusal rowRefusal packedTransactionRefusal transactionRefusal surplusRefusal total sumN surplus shares centsOf charge positionCharge pathCharge aheadAt realAt aheadPath realPath Σℤ sumTo header bytesAt placesOf congestionCharges lossCharges credits nets parts part cutDown remainder unitsLeft before place
 congestion = refl
 
 -- no row at all: 1 participant, 1 location, and prices of 0

@@ -60,7 +60,7 @@ pub fn put_statement(file: &[u8], page: &mut [u8; 6825]) -> usize
 // The program: the statement of the exercise file on standard input. It reads one byte more than the longest file has, so
 // that longer input is refused by its length.
 fn main() {
-    let mut file = [0u8; 18822];
+    let mut file = [0u8; 19078];
     let n = io::read_full(STDIN_FILENO, &mut file);
     let mut page = [0u8; 6825];
     let length = put_statement(&file[..n], &mut page);

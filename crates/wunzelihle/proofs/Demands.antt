@@ -1,5 +1,5 @@
--- What document 00 demands of the calls of the C server, in its own words, what document 02, ticket 1, promises of writing a file, and that a cause tells the refusal's own
--- number: read this page first.
+-- What document 00 demands of the calls of the C server, in its own words, what document 02 promises of writing a file (ticket 1) and of transactions with a seller (ticket 2),
+-- and that a cause tells the refusal's own number: read this page first.
 --
 -- `F.Post κs args answer exit` is the contract of call F, and rt proves of its code that every call which meets `F.Pre` ends and leaves `F.Post`:
 -- `args` are the arguments, `answer` is 0 where the call is accepted and else its refusal, `exit` has the lent slices as they are left.
@@ -10,7 +10,7 @@
 use mathlib.Core.Path.{_≡_, refl, sym, ap, ap₂, _∙_, subst}
 use mathlib.Core.Logic.{_⊎_}
 use mathlib.Core.Bool.{false}
-use mathlib.Core.List.{List, [], _∷_, _++_}
+use mathlib.Core.List.{List, [], _∷_, map, _++_}
 use Prim.Native.Nat.{ℕ, _+_, _*_, _/_, _≤_, _<_}
 use contract.Lifetimes.{Lfts}
 use lib.IntN.{ℤ, pos, _+ℤ_, _-ℤ_}
@@ -32,15 +32,19 @@ use Rattle.load.proofs.Kilowatts.{assignment-within}
 use Rattle.load.proofs.Theorems.{demand-3}
 use Rattle.hour.specs.Cause.{causeNumbers}
 use Rattle.hour.specs.Charges as hour
-use Rattle.hour.specs.Hour.{Hour, allPrices, congestionPrices, lossPrices, positions}
+use Rattle.hour.specs.Hour.{Hour, allPrices, congestionPrices, lossPrices, positionOf, positions, withTransaction}
 use Rattle.hour.specs.InsideTested.{Sound}
-use Rattle.hour.specs.Order.{outputsRefusal, surplusRefusal}
+use Rattle.hour.specs.Order.{outputsRefusal, surplusRefusal, transactionRefusal}
 use Rattle.hour.specs.Surplus as surplus
 use Rattle.hour.specs.declared.Cause.{Cause}
+use Rattle.hour.specs.declared.Edition.the-variants as Edition
+use Rattle.hour.specs.declared.Transaction.{Transaction}
 use Rattle.hour.proofs.Each.{congestion-at, loss-at, net-at}
+use Rattle.hour.proofs.Tested.{transaction-tested}
 use Rattle.hour.proofs.Theorems as hour-laws
 use Rattle.exercise.specs.Cause.{hourCause, givenCause, fileNumbers, givenNumbers, causeRefusal}
-use Rattle.exercise.specs.File.{header, hourOf}
+use Rattle.exercise.specs.File.{header, editionIn, hourOf}
+use Rattle.exercise.specs.Layout.{transactionSize, editionOf}
 use Rattle.exercise.specs.Lists.{Content, content, participantsOf, countNumbers, fileCountsRefusal, hourGiven, listsRefusal, writeRefusal, writeOutcome, readRefusal, rowNumbers, transactionNumbers, inTurns, pricesListed, rowsListed, transactionsListed, contentOf, Holds}
 use Rattle.exercise.specs.Order.{inBytes, frameRefusal, fileRefusal, hourRefusal}
 use Rattle.exercise.specs.Written.{fileOf, FitsFields}
@@ -283,6 +287,28 @@ module _ (κs : Lfts 5) (args : _) (answer : ℕ) (exit : _) (post : wz-settle-h
     pub hour-net-total : sum net ≡ sum congestion
     hour-net-total = rw (hour-whole .3, hour-whole .0) (hour-laws.net-total held sound shared)
 
+    -- Document 02, ticket 2: "0 as before, path only": there a charge is of rows and paths alone
+    pub hour-path-only : held .edition ≡ Edition.PathOnly → (p : ℕ) → p < held .participants
+        → (congestion at p ≡ centsOf (hour.charge (congestionPrices held) (map positionOf (held .rows)) (held .transactions) p))
+        × (loss at p ≡ centsOf (hour.charge (lossPrices held) (map positionOf (held .rows)) (held .transactions) p))
+    hour-path-only e p l = (
+      hour-congestion p l ∙ ap centsOf (sym (hour-laws.path-only (congestionPrices held) held e p)),
+      hour-loss p l ∙ ap centsOf (sym (hour-laws.path-only (lossPrices held) held e p)),
+    )
+
+    -- "Show that such a transaction adds exactly nothing to the class's exact total.": with sellers that total is the rows' alone, congestion and loss alike
+    pub hour-sales-nothing : held .edition ≡ Edition.WithSeller
+        → (hour.classTotal (congestionPrices held) held ≡ hour.rowsTotal (congestionPrices held) held) × (hour.classTotal (lossPrices held) held ≡ hour.rowsTotal (lossPrices held) held)
+    hour-sales-nothing e = (hour-laws.class-rows (congestionPrices held) held e (sound .each-transaction), hour-laws.class-rows (lossPrices held) held e (sound .each-transaction))
+
+    -- .. and one transaction more that isn't refused, day-ahead or in real time, leaves it as it is
+    pub hour-sale-nothing : held .edition ≡ Edition.WithSeller → (t : Transaction) → transactionRefusal (held .participants) (held .locations) t ≡ 0
+        → (hour.classTotal (congestionPrices held) (withTransaction held t) ≡ hour.classTotal (congestionPrices held) held)
+        × (hour.classTotal (lossPrices held) (withTransaction held t) ≡ hour.classTotal (lossPrices held) held)
+    hour-sale-nothing e t passes =
+        let tested = transaction-tested (held .participants) (held .locations) t passes in
+        (hour-laws.adds-nothing (congestionPrices held) held t e tested, hour-laws.adds-nothing (lossPrices held) held t e tested)
+
     -- Demand 3: "This holds for every accepted hour's loss credits": they split the loss charges' sum over real-time load and exports
     pub hour-fair : Fair (sum loss) (surplus.shares held) credit
     hour-fair = fair-of (hour-laws.fair held sound shared) (ap sum (hour-whole .1) ∙ hour-laws.losses-total held sound shared) (hour-whole .2)
@@ -292,23 +318,23 @@ module _ (κs : Lfts 5) (args : _) (answer : ℕ) (exit : _) (post : wz-settle-h
 module _ (κs : Lfts 4) (args : _) (answer : ℕ) (exit : _) (post : wz-write-file.Post κs args answer exit) where
   -- "header numbers, prices, rows and transactions in lent lists", and the hour that they are
   abbrev handed : Content
-  handed = content (args .0) (args .1 .0) (args .1 .1 .0) (args .1 .1 .1 .0) (args .1 .1 .1 .1 .0 .now) (args .1 .1 .1 .1 .1 .0 .now) (args .1 .1 .1 .1 .1 .1 .0 .now)
+  handed = content (args .0) (args .1 .0) (args .1 .1 .0) (args .1 .1 .1 .0) (args .1 .1 .1 .1 .0) (args .1 .1 .1 .1 .1 .0 .now) (args .1 .1 .1 .1 .1 .1 .0 .now) (args .1 .1 .1 .1 .1 .1 .1 .0 .now)
 
   -- the bytes of that hour
   abbrev written : List ℕ
   written = fileOf (hourGiven handed)
 
   abbrev bufferBefore : List ℕ
-  bufferBefore = args .1 .1 .1 .1 .1 .1 .1 .0 .now
+  bufferBefore = args .1 .1 .1 .1 .1 .1 .1 .1 .0 .now
 
   abbrev bufferAfter : List ℕ
-  bufferAfter = exit .1 .1 .1 .1 .1 .1 .1 .0 .now
+  bufferAfter = exit .1 .1 .1 .1 .1 .1 .1 .1 .0 .now
 
   -- Demand 1
   pub write-answer : answer ≡ writeRefusal handed (length bufferBefore)
   write-answer = post .0
 
-  pub write-one-result : (other : ℕ) (there : _) → wz-write-file.Post κs args other there → (answer ≡ other) × (bufferAfter ≡ there .1 .1 .1 .1 .1 .1 .1 .0 .now)
+  pub write-one-result : (other : ℕ) (there : _) → wz-write-file.Post κs args other there → (answer ≡ other) × (bufferAfter ≡ there .1 .1 .1 .1 .1 .1 .1 .1 .0 .now)
   write-one-result other there q = wz-write-file-unique κs args answer other exit there post q
 
   -- "A refused call changes nothing it was lent."
@@ -327,7 +353,7 @@ module _ (κs : Lfts 4) (args : _) (answer : ℕ) (exit : _) (post : wz-write-fi
     pub write-room : length written ≤ length bufferBefore
     write-room = lists.write-passes handed (length bufferBefore) (sym (post .0) ∙ accepted) .2
 
-    pub write-length : length written ≡ 5 + 78 * header written .locations + 6 * header written .rows + 6 * header written .transactions
+    pub write-length : length written ≡ 5 + 78 * header written .locations + 6 * header written .rows + transactionSize (editionIn written) * header written .transactions
     write-length = round.accepted-length written (write-holds .accepted)
 
     -- .. and so does the other call: whenever it is lent this file and lists as long as these, it answers 0, and they are these, byte for byte
@@ -364,13 +390,13 @@ module _ (κs : Lfts 4) (args : _) (answer : ℕ) (exit : _) (post : wz-write-fi
   write-accepts file b k h = post .0 ∙ round.holds-taken file handed b k (length bufferBefore) h
 
   -- .. and what fits its fields, in lists as long as the counts say, it refuses with the reader's number
-  pub write-same-number : (p l n m : ℕ) → args .0 ≡ pos p → args .1 .0 ≡ pos l → args .1 .1 .0 ≡ pos n → args .1 .1 .1 .0 ≡ pos m
-      → listsRefusal l n m (length (handed .prices)) (length (handed .rowList)) (length (handed .transactionList)) ≡ 0
+  pub write-same-number : (p l n m d : ℕ) → args .0 ≡ pos p → args .1 .0 ≡ pos l → args .1 .1 .0 ≡ pos n → args .1 .1 .1 .0 ≡ pos m → args .1 .1 .1 .1 .0 ≡ pos d → d ≤ 1
+      → listsRefusal l n m (editionOf d) (length (handed .prices)) (length (handed .rowList)) (length (handed .transactionList)) ≡ 0
       → FitsFields (hourGiven handed) → length written ≤ length bufferBefore → answer ≡ fileRefusal written
-  write-same-number p l n m p-is l-is n-is m-is right f h =
-      let counts : handed ≡ content (pos p) (pos l) (pos n) (pos m) (handed .prices) (handed .rowList) (handed .transactionList) = lists.content-same p-is l-is n-is m-is in
+  write-same-number p l n m d p-is l-is n-is m-is d-is known right f h =
+      let counts : handed ≡ content (pos p) (pos l) (pos n) (pos m) (pos d) (handed .prices) (handed .rowList) (handed .transactionList) = lists.content-same p-is l-is n-is m-is d-is in
       post .0 ∙ ap (λ (c : Content). writeRefusal c (length bufferBefore)) counts
-      ∙ round.same-number p l n m _ _ _ right (subst (λ (c : Content). FitsFields (hourGiven c)) counts f) (length bufferBefore) (subst (λ (c : Content). length (fileOf (hourGiven c)) ≤ length bufferBefore) counts h)
+      ∙ round.same-number p l n m d _ _ _ known right (subst (λ (c : Content). FitsFields (hourGiven c)) counts f) (length bufferBefore) (subst (λ (c : Content). length (fileOf (hourGiven c)) ≤ length bufferBefore) counts h)
       ∙ sym (ap (λ (c : Content). fileRefusal (fileOf (hourGiven c))) counts)
 
 -- ==== wz_read_file
@@ -403,7 +429,7 @@ module _ (κs : Lfts 4) (args : _) (answer : ℕ) (exit : _) (post : wz-read-fil
   )
 
   -- with lists as long as its header says, a file is read where the check answers 0, and else gets the check's number
-  pub read-checked : listsRefusal (header source .locations) (header source .rows) (header source .transactions) (length pricesBefore) (length rowsBefore) (length transactionsBefore) ≡ 0 → answer ≡ fileRefusal source
+  pub read-checked : listsRefusal (header source .locations) (header source .rows) (header source .transactions) (editionIn source) (length pricesBefore) (length rowsBefore) (length transactionsBefore) ≡ 0 → answer ≡ fileRefusal source
   read-checked right = post .0 ∙ lists.read-checked source _ _ _ right
 
   module _ (accepted : answer ≡ 0) where
@@ -420,27 +446,27 @@ module _ (κs : Lfts 4) (args : _) (answer : ℕ) (exit : _) (post : wz-read-fil
 
     -- .. and in numbers: each fits 64 bits and none wrapped
     pub read-numbers : Bytes source
-        → (numbers (exit .1 .0 .now) ≡ allPrices (hourOf source)) × (numbers (exit .1 .1 .0 .now) ≡ inTurns rowNumbers (hourOf source .rows)) × (numbers (exit .1 .1 .1 .0 .now) ≡ inTurns transactionNumbers (hourOf source .transactions))
+        → (numbers (exit .1 .0 .now) ≡ allPrices (hourOf source)) × (numbers (exit .1 .1 .0 .now) ≡ inTurns rowNumbers (hourOf source .rows)) × (numbers (exit .1 .1 .1 .0 .now) ≡ inTurns (transactionNumbers (editionIn source)) (hourOf source .transactions))
     read-numbers b =
         let n = round.listed-numbers source b read-passes in
         (ap numbers (read-whole .0) ∙ n .0, ap numbers (read-whole .1) ∙ n .1, ap numbers (read-whole .2) ∙ n .2)
 
-    -- ".. writing what was read from an accepted file gives its bytes": whenever the other call is handed the counts of its header and these lists, and its buffer has
+    -- ".. writing what was read from an accepted file gives its bytes": whenever the other call is handed the counts of its header, its edition and these lists, and its buffer has
     -- room, it answers 0 and the buffer begins with the file
     module _ (λs : Lfts 4) (again : _) (reply : ℕ) (buffer : _) (then-write : wz-write-file.Post λs again reply buffer) (b : Bytes source)
-        (same : handed λs again reply buffer then-write ≡ content (pos (header source .participants)) (pos (header source .locations)) (pos (header source .rows)) (pos (header source .transactions)) (exit .1 .0 .now) (exit .1 .1 .0 .now) (exit .1 .1 .1 .0 .now))
-        (room : length source ≤ length (again .1 .1 .1 .1 .1 .1 .1 .0 .now)) where
+        (same : handed λs again reply buffer then-write ≡ content (pos (header source .participants)) (pos (header source .locations)) (pos (header source .rows)) (pos (header source .transactions)) (pos (header source .edition)) (exit .1 .0 .now) (exit .1 .1 .0 .now) (exit .1 .1 .1 .0 .now))
+        (room : length source ≤ length (again .1 .1 .1 .1 .1 .1 .1 .1 .0 .now)) where
       same-content : handed λs again reply buffer then-write ≡ contentOf source
       same-content = same ∙ lists.lists-same (read-whole .0) (read-whole .1) (read-whole .2)
 
       pub read-then-write : reply ≡ 0
       read-then-write =
-          then-write .0 ∙ ap (λ (c : Content). writeRefusal c (length (again .1 .1 .1 .1 .1 .1 .1 .0 .now))) same-content
+          then-write .0 ∙ ap (λ (c : Content). writeRefusal c (length (again .1 .1 .1 .1 .1 .1 .1 .1 .0 .now))) same-content
           ∙ round.listed-taken source b read-passes _ room
 
-      pub read-then-write-bytes : buffer .1 .1 .1 .1 .1 .1 .1 .0 .now ≡ source ++ drop (length source) (again .1 .1 .1 .1 .1 .1 .1 .0 .now)
+      pub read-then-write-bytes : buffer .1 .1 .1 .1 .1 .1 .1 .1 .0 .now ≡ source ++ drop (length source) (again .1 .1 .1 .1 .1 .1 .1 .1 .0 .now)
       read-then-write-bytes =
-          then-write .1 ∙ ap (λ (c : Content). writeOutcome c (again .1 .1 .1 .1 .1 .1 .1 .0 .now)) same-content
+          then-write .1 ∙ ap (λ (c : Content). writeOutcome c (again .1 .1 .1 .1 .1 .1 .1 .1 .0 .now)) same-content
           ∙ round.listed-again source b read-passes _ room
 
 -- ==== wz_version, wz_participants, wz_counts
@@ -509,22 +535,22 @@ module _ (κs : Lfts 2) (args : _) (answer : ℕ) (exit : _) (post : wz-find-cau
 
 module _ (κs : Lfts 4) (args : _) (answer : ℕ) (exit : _) (post : wz-find-list-cause.Post κs args answer exit) where
   abbrev offered : Content
-  offered = content (args .0) (args .1 .0) (args .1 .1 .0) (args .1 .1 .1 .0) (args .1 .1 .1 .1 .0 .now) (args .1 .1 .1 .1 .1 .0 .now) (args .1 .1 .1 .1 .1 .1 .0 .now)
+  offered = content (args .0) (args .1 .0) (args .1 .1 .0) (args .1 .1 .1 .0) (args .1 .1 .1 .1 .0) (args .1 .1 .1 .1 .1 .0 .now) (args .1 .1 .1 .1 .1 .1 .0 .now) (args .1 .1 .1 .1 .1 .1 .1 .0 .now)
 
   abbrev listTold : Cause
   listTold = givenCause offered
 
   abbrev causeBefore : List ℕ
-  causeBefore = args .1 .1 .1 .1 .1 .1 .1 .0 .now
+  causeBefore = args .1 .1 .1 .1 .1 .1 .1 .1 .0 .now
 
   abbrev causeAfter : List ℕ
-  causeAfter = exit .1 .1 .1 .1 .1 .1 .1 .0 .now
+  causeAfter = exit .1 .1 .1 .1 .1 .1 .1 .1 .0 .now
 
   -- Demand 1
   pub find-list-answer : answer ≡ causeRefusal (length causeBefore)
   find-list-answer = post .0
 
-  pub find-list-one-result : (other : ℕ) (there : _) → wz-find-list-cause.Post κs args other there → (answer ≡ other) × (causeAfter ≡ there .1 .1 .1 .1 .1 .1 .1 .0 .now)
+  pub find-list-one-result : (other : ℕ) (there : _) → wz-find-list-cause.Post κs args other there → (answer ≡ other) × (causeAfter ≡ there .1 .1 .1 .1 .1 .1 .1 .1 .0 .now)
   find-list-one-result other there q = wz-find-list-cause-unique κs args answer other exit there post q
 
   pub find-list-unchanged : (answer ≡ 0 → ⊥) → causeAfter ≡ causeBefore
@@ -535,9 +561,9 @@ module _ (κs : Lfts 4) (args : _) (answer : ℕ) (exit : _) (post : wz-find-lis
 
   -- the number that is told is the writing's own, for all content, where the buffer has room for the file
   pub find-list-written : (λs : Lfts 4) (again : _) (reply : ℕ) (buffer : _) (then-write : wz-write-file.Post λs again reply buffer) → handed λs again reply buffer then-write ≡ offered
-      → length (fileOf (hourGiven offered)) ≤ length (again .1 .1 .1 .1 .1 .1 .1 .0 .now) → reply ≡ listTold .refusal
+      → length (fileOf (hourGiven offered)) ≤ length (again .1 .1 .1 .1 .1 .1 .1 .1 .0 .now) → reply ≡ listTold .refusal
   find-list-written λs again reply buffer then-write same room =
-      then-write .0 ∙ ap (λ (c : Content). writeRefusal c (length (again .1 .1 .1 .1 .1 .1 .1 .0 .now))) same ∙ causes.room-number offered (length (again .1 .1 .1 .1 .1 .1 .1 .0 .now)) room
+      then-write .0 ∙ ap (λ (c : Content). writeRefusal c (length (again .1 .1 .1 .1 .1 .1 .1 .1 .0 .now))) same ∙ causes.room-number offered (length (again .1 .1 .1 .1 .1 .1 .1 .1 .0 .now)) room
 
   pub find-list-outside : (listTold .refusal ≡ 0) ⊎ (between (listTold .least) (listTold .most) (listTold .found) ≡ false)
   find-list-outside = causes.given-outside offered .beyond

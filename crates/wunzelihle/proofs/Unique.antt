@@ -27,7 +27,7 @@ wz-settle-hour-unique κs a r s e f p q =
     let t : wz-settle-hour.Post κs a r f = subst (λ (n : ℕ). wz-settle-hour.Post κs a n f) (unique (q .0) (p .0)) q in
     (unique (p .0) (q .0), unique (p .1 .0) (t .1 .0), unique (p .1 .1 .0) (t .1 .1 .0), unique (p .1 .1 .1 .0) (t .1 .1 .1 .0), unique (p .1 .1 .1 .1) (t .1 .1 .1 .1))
 
-pub wz-write-file-unique : (κs : Lfts 4) (a : _) (r s : ℕ) (e f : _) → wz-write-file.Post κs a r e → wz-write-file.Post κs a s f → (r ≡ s) × (e .1 .1 .1 .1 .1 .1 .1 .0 .now ≡ f .1 .1 .1 .1 .1 .1 .1 .0 .now)
+pub wz-write-file-unique : (κs : Lfts 4) (a : _) (r s : ℕ) (e f : _) → wz-write-file.Post κs a r e → wz-write-file.Post κs a s f → (r ≡ s) × (e .1 .1 .1 .1 .1 .1 .1 .1 .0 .now ≡ f .1 .1 .1 .1 .1 .1 .1 .1 .0 .now)
 wz-write-file-unique κs a r s e f p q = (unique (p .0) (q .0), unique (p .1) (q .1))
 
 pub wz-read-file-unique : (κs : Lfts 4) (a : _) (r s : ℕ) (e f : _) → wz-read-file.Post κs a r e → wz-read-file.Post κs a s f
@@ -48,5 +48,5 @@ wz-counts-unique κs a r s e f p q = (unique (p .0) (q .0), unique (p .1) (q .1)
 pub wz-find-cause-unique : (κs : Lfts 2) (a : _) (r s : ℕ) (e f : _) → wz-find-cause.Post κs a r e → wz-find-cause.Post κs a s f → (r ≡ s) × (e .1 .0 .now ≡ f .1 .0 .now)
 wz-find-cause-unique κs a r s e f p q = (unique (p .0) (q .0), unique (p .1) (q .1))
 
-pub wz-find-list-cause-unique : (κs : Lfts 4) (a : _) (r s : ℕ) (e f : _) → wz-find-list-cause.Post κs a r e → wz-find-list-cause.Post κs a s f → (r ≡ s) × (e .1 .1 .1 .1 .1 .1 .1 .0 .now ≡ f .1 .1 .1 .1 .1 .1 .1 .0 .now)
+pub wz-find-list-cause-unique : (κs : Lfts 4) (a : _) (r s : ℕ) (e f : _) → wz-find-list-cause.Post κs a r e → wz-find-list-cause.Post κs a s f → (r ≡ s) × (e .1 .1 .1 .1 .1 .1 .1 .1 .0 .now ≡ f .1 .1 .1 .1 .1 .1 .1 .1 .0 .now)
 wz-find-list-cause-unique κs a r s e f p q = (unique (p .0) (q .0), unique (p .1) (q .1))

@@ -135,19 +135,21 @@ pub extern "C" fn wz_write_file(
     locations: i64,
     rows: i64,
     transactions: i64,
+    edition: i64,
     prices: &[u8],
     row_list: &[u8],
     transaction_list: &[u8],
     file: &mut [u8],
 ) -> u32
-    ensures { λ r. ⌜ r ≡ writeRefusal (content participants locations rows transactions (now (prices .entry)) (now («row_list» .entry)) (now («transaction_list» .entry))) (length (now (file .entry))) ⌝ }
-    ensures { λ _. ⌜ now (file .exit) ≡ writeOutcome (content participants locations rows transactions (now (prices .entry)) (now («row_list» .entry)) (now («transaction_list» .entry))) (now (file .entry)) ⌝ }
+    ensures { λ r. ⌜ r ≡ writeRefusal (content participants locations rows transactions edition (now (prices .entry)) (now («row_list» .entry)) (now («transaction_list» .entry))) (length (now (file .entry))) ⌝ }
+    ensures { λ _. ⌜ now (file .exit) ≡ writeOutcome (content participants locations rows transactions edition (now (prices .entry)) (now («row_list» .entry)) (now («transaction_list» .entry))) (now (file .entry)) ⌝ }
 {
     exercise_write::write_file(
         participants,
         locations,
         rows,
         transactions,
+        edition,
         prices,
         row_list,
         transaction_list,
@@ -174,7 +176,7 @@ pub extern "C" fn wz_read_file(
 pub extern "C" fn wz_version() -> u32
     ensures { λ r. ⌜ r ≡ version ⌝ }
 {
-    10000
+    20000
 }
 
 #[no_mangle]
@@ -210,13 +212,14 @@ pub extern "C" fn wz_find_list_cause(
     locations: i64,
     rows: i64,
     transactions: i64,
+    edition: i64,
     prices: &[u8],
     row_list: &[u8],
     transaction_list: &[u8],
     cause: &mut [u8],
 ) -> u32
     ensures { λ r. ⌜ r ≡ causeRefusal (length (now (cause .entry))) ⌝ }
-    ensures { λ _. ⌜ now (cause .exit) ≡ causeOutcome (givenCause (content participants locations rows transactions (now (prices .entry)) (now («row_list» .entry)) (now («transaction_list» .entry)))) (now (cause .entry)) ⌝ }
+    ensures { λ _. ⌜ now (cause .exit) ≡ causeOutcome (givenCause (content participants locations rows transactions edition (now (prices .entry)) (now («row_list» .entry)) (now («transaction_list» .entry)))) (now (cause .entry)) ⌝ }
 {
     if cause.len() != 56 {
         return 1;
@@ -227,6 +230,7 @@ pub extern "C" fn wz_find_list_cause(
             locations,
             rows,
             transactions,
+            edition,
             prices,
             row_list,
             transaction_list,

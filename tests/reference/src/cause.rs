@@ -3,13 +3,13 @@
 
 use crate::bits::BitReader;
 use crate::exercise::{
-    self, Hour, DAY_AHEAD, HEADER_BYTES, INTERVALS, MOST_PRICE, MOST_ROWS, MOST_TRANSACTIONS,
-    PRICE_BYTES, ROW_BYTES, TRANSACTION_BYTES,
+    self, Edition, Hour, DAY_AHEAD, HEADER_BYTES, INTERVALS, MOST_PRICE, MOST_ROWS,
+    MOST_TRANSACTIONS, PRICE_BYTES, ROW_BYTES,
 };
 use crate::hour::charged;
 use crate::numbers;
 use crate::split::{MOST_AMOUNT, MOST_SHARE};
-use crate::write::{Given, FIELDS, STRETCHES};
+use crate::write::{Given, ROW_NUMBERS, STRETCHES};
 use crate::MOST_KW;
 
 /// Refusal, part, number, field, found, least, most; all 0 where nothing is
@@ -72,6 +72,7 @@ fn tell(cause: Cause, list: &mut Vec<u8>) -> u32 {
 
 pub fn cause_of_file(file: &[u8]) -> Cause {
     first(of_length(file))
+        .or_else(|| first(of_edition(header(file)[EDITION])))
         .or_else(|| first(of_header(file)))
         .or_else(|| first(of_contents(&contents(file))))
         .or_else(|| first(of_hour(&hour(file))))
@@ -79,16 +80,34 @@ pub fn cause_of_file(file: &[u8]) -> Cause {
 }
 
 pub fn cause_of_lists(given: &Given) -> Cause {
-    first(of_counts(given))
+    first(of_edition(given.edition))
+        .or_else(|| first(of_counts(given)))
         .or_else(|| first(of_lists(given)))
         .or_else(|| first(of_contents(&given_contents(given))))
         .unwrap_or_default()
 }
 
+/// The field of the header that is the edition.
+const EDITION: usize = 4;
+
+fn of_edition(edition: i64) -> Vec<Test> {
+    vec![Test {
+        place: (HEADER, 0, EDITION),
+        found: edition,
+        range: (0, Edition::ALL.len() as i64 - 1),
+        refusal: 9,
+    }]
+}
+
+/// An edition that was tested.
+fn tested(edition: i64) -> Edition {
+    Edition::of(edition).expect("a known edition")
+}
+
 // Of a file's length and header.
 
 const SHORTEST: i64 = 83;
-const LONGEST: i64 = 18_821;
+const LONGEST: i64 = 19_077;
 
 /// A file that has no header is of no length that a file can have.
 fn of_length(file: &[u8]) -> Vec<Test> {
@@ -103,31 +122,30 @@ fn of_length(file: &[u8]) -> Vec<Test> {
     }]
 }
 
-/// Participants, locations, rows, transactions as counts, and the spare bits.
+/// Participants, locations, rows, transactions as counts, and the edition.
 fn header(file: &[u8]) -> [i64; 5] {
     let mut bits = BitReader::new(file);
-    let [participants, locations, rows, transactions, spare] =
+    let [participants, locations, rows, transactions, edition] =
         [6, 6, 12, 10, 6].map(|width| bits.take(width) as i64);
-    [participants + 1, locations + 1, rows, transactions, spare]
+    [participants + 1, locations + 1, rows, transactions, edition]
 }
 
 fn of_header(file: &[u8]) -> Vec<Test> {
-    let [_, locations, rows, transactions, spare] = header(file);
-    let told = |field: usize, found: i64, most: usize, refusal: i64| Test {
+    let [_, locations, rows, transactions, edition] = header(file);
+    let told = |field: usize, found: i64, most: usize| Test {
         place: (HEADER, 0, field),
         found,
         range: (0, most as i64),
-        refusal,
+        refusal: 1,
     };
     let prices = STRETCHES as i64 * locations;
     let length = HEADER_BYTES as i64
         + PRICE_BYTES as i64 * prices
         + ROW_BYTES as i64 * rows
-        + TRANSACTION_BYTES as i64 * transactions;
+        + tested(edition).transaction_bytes() as i64 * transactions;
     vec![
-        told(4, spare, 0, 9),
-        told(2, rows, MOST_ROWS, 1),
-        told(3, transactions, MOST_TRANSACTIONS, 1),
+        told(2, rows, MOST_ROWS),
+        told(3, transactions, MOST_TRANSACTIONS),
         Test {
             place: (FILE, 0, 0),
             found: file.len() as i64,
@@ -157,10 +175,11 @@ fn of_counts(given: &Given) -> Vec<Test> {
 }
 
 fn of_lists(given: &Given) -> Vec<Test> {
+    let each = tested(given.edition).transaction_numbers() as i64;
     let lists = [
         (&given.prices, STRETCHES as i64 * given.locations),
-        (&given.row_list, FIELDS as i64 * given.rows),
-        (&given.transaction_list, FIELDS as i64 * given.transactions),
+        (&given.row_list, ROW_NUMBERS as i64 * given.rows),
+        (&given.transaction_list, each * given.transactions),
     ];
     let tests = lists.into_iter().enumerate();
     let test = |(field, (list, numbers)): (usize, (&Vec<u8>, i64))| Test {
@@ -181,21 +200,47 @@ struct Contents {
     prices: Vec<i64>,
     /// Market, kind, interval, participant, location, kW and spare bits.
     rows: Vec<[i64; 7]>,
-    /// Market, interval, participant, source, sink, kW.
-    transactions: Vec<[i64; 6]>,
+    transactions: Vec<Numbers>,
+}
+
+/// Numbers of a transaction in the order in which they stand and are tested,
+/// each with the field that a cause has for it.
+type Numbers = Vec<(usize, i64)>;
+
+const SELLER: usize = 6;
+const SPARE: usize = 7;
+
+/// The fields of a transaction in a file, and their bits.
+fn fields(edition: Edition) -> &'static [(usize, usize)] {
+    match edition {
+        Edition::PathOnly => &[(0, 1), (1, 4), (2, 6), (3, 6), (4, 6), (5, 25)],
+        Edition::WithSeller => &[
+            (0, 1),
+            (1, 4),
+            (2, 6),
+            (SELLER, 6),
+            (3, 6),
+            (4, 6),
+            (5, 25),
+            (SPARE, 2),
+        ],
+    }
 }
 
 /// Those of a file that is as long as its header tells.
 fn contents(file: &[u8]) -> Contents {
-    let [participants, locations, rows, transactions, _] = header(file);
+    let [participants, locations, rows, transactions, edition] = header(file);
     let mut bits = BitReader::new(&file[HEADER_BYTES..]);
     let prices = 0..STRETCHES as i64 * locations;
     let prices = prices.map(|_| bits.take_signed(8 * PRICE_BYTES)).collect();
     let mut take = |width: usize| bits.take(width) as i64;
     let rows = (0..rows).map(|_| [1, 3, 4, 6, 6, 25, 3].map(&mut take));
     let rows = rows.collect();
-    let transactions = (0..transactions).map(|_| [1, 4, 6, 6, 6, 25].map(&mut take));
-    let transactions = transactions.collect();
+    let mut transaction = || -> Numbers {
+        let fields = fields(tested(edition)).iter();
+        fields.map(|&(field, width)| (field, take(width))).collect()
+    };
+    let transactions = (0..transactions).map(|_| transaction()).collect();
     Contents {
         participants,
         locations,
@@ -211,13 +256,17 @@ fn given_contents(given: &Given) -> Contents {
     let rows = list(&given.row_list);
     let row = |six: &[i64]| [six, &[0]].concat().try_into().unwrap();
     let transactions = list(&given.transaction_list);
-    let transaction = |six: &[i64]| six.try_into().unwrap();
+    let edition = tested(given.edition);
+    // A list has no spare bits, which come last in a file.
+    let fields = fields(edition).iter().map(|field| field.0);
+    let transaction = |numbers: &[i64]| fields.clone().zip(numbers.iter().copied()).collect();
+    let each = edition.transaction_numbers();
     Contents {
         participants: given.participants,
         locations: given.locations,
         prices: list(&given.prices),
-        rows: rows.chunks(FIELDS).map(row).collect(),
-        transactions: transactions.chunks(FIELDS).map(transaction).collect(),
+        rows: rows.chunks(ROW_NUMBERS).map(row).collect(),
+        transactions: transactions.chunks(each).map(transaction).collect(),
     }
 }
 
@@ -259,11 +308,13 @@ fn of_row(at: usize, row: &[i64; 7], contents: &Contents) -> Vec<Test> {
         (MOST_KW + 1, 2),
         (1, 9),
     ];
-    of_entry(ROW, at, row, &counts_and_refusals)
+    let numbers: Numbers = row.iter().copied().enumerate().collect();
+    of_entry(ROW, at, &numbers, &counts_and_refusals)
 }
 
-fn of_transaction(at: usize, transaction: &[i64; 6], contents: &Contents) -> Vec<Test> {
-    let (_, intervals) = of_market(transaction[0]);
+fn of_transaction(at: usize, transaction: &Numbers, contents: &Contents) -> Vec<Test> {
+    let (_, market) = transaction[0];
+    let (_, intervals) = of_market(market);
     let counts_and_refusals = [
         (2, 4),
         (intervals, 4),
@@ -271,20 +322,24 @@ fn of_transaction(at: usize, transaction: &[i64; 6], contents: &Contents) -> Vec
         (contents.locations, 3),
         (contents.locations, 3),
         (MOST_KW + 1, 2),
+        (contents.participants, 3),
+        (1, 9),
     ];
     of_entry(TRANSACTION, at, transaction, &counts_and_refusals)
 }
 
-/// Each field is one of so many, counted from 0.
-fn of_entry(part: i64, at: usize, fields: &[i64], counts: &[(i64, i64)]) -> Vec<Test> {
-    let tests = fields.iter().zip(counts).enumerate();
-    let test = |(field, (&found, &(count, refusal)))| Test {
-        place: (part, at, field),
-        found,
-        range: (0, count - 1),
-        refusal,
+/// Each number is one of so many, counted from 0, by its field.
+fn of_entry(part: i64, at: usize, numbers: &Numbers, counts: &[(i64, i64)]) -> Vec<Test> {
+    let test = |&(field, found): &(usize, i64)| {
+        let (count, refusal) = counts[field];
+        Test {
+            place: (part, at, field),
+            found,
+            range: (0, count - 1),
+            refusal,
+        }
     };
-    tests.map(test).collect()
+    numbers.iter().map(test).collect()
 }
 
 // Of what an hour comes to.
@@ -325,33 +380,51 @@ mod tests {
     use crate::numbers::{bytes, unhex};
     use crate::vectors;
 
-    fn changed(change: impl Fn(&mut File)) -> Cause {
-        let mut file = File::new(2, 3);
+    fn changed_of(edition: Edition, change: impl Fn(&mut File)) -> Cause {
+        let mut file = File::of(edition, 2, 3);
         for _ in 0..4 {
             file.row(1, 0, 11, 1, 2, 600);
-            file.transaction(1, 11, 1, 0, 2, 600);
+            match edition {
+                Edition::PathOnly => file.transaction(1, 11, 1, 0, 2, 600),
+                Edition::WithSeller => file.sale(1, 11, 1, 0, 0, 2, 600),
+            }
         }
         change(&mut file);
         cause_of_file(&file.bytes())
     }
 
+    fn changed(change: impl Fn(&mut File)) -> Cause {
+        changed_of(Edition::PathOnly, change)
+    }
+
     #[test]
     fn accepted() {
         assert_eq!(cause_of_file(&document_01()), [0; 7]);
-        assert_eq!(changed(|_| ()), [0; 7]);
+        for edition in Edition::ALL {
+            assert_eq!(changed_of(edition, |_| ()), [0; 7]);
+        }
     }
 
     #[test]
     fn lengths_and_headers() {
         let file = document_01();
         let length = file.len() as i64;
-        assert_eq!(cause_of_file(&[]), [9, FILE, 0, 0, 0, 83, 18_821]);
-        assert_eq!(cause_of_file(&file[..4]), [9, FILE, 0, 0, 4, 83, 18_821]);
+        assert_eq!(cause_of_file(&[]), [9, FILE, 0, 0, 0, 83, 19_077]);
+        assert_eq!(cause_of_file(&file[..4]), [9, FILE, 0, 0, 4, 83, 19_077]);
         assert_eq!(
             cause_of_file(&file[..5]),
             [9, FILE, 0, 0, 5, length, length]
         );
-        assert_eq!(changed(|file| file.spare = 33), [9, HEADER, 0, 4, 33, 0, 0]);
+        for told in [2, 33, 63] {
+            let edition = changed(|file| file.told_edition = Some(told));
+            assert_eq!(edition, [9, HEADER, 0, 4, told, 0, 1]);
+        }
+        // Four transactions of the other edition are four bytes more, or less.
+        let length = 5 + 78 * 3 + 4 * (6 + 6);
+        let other = changed(|file| file.told_edition = Some(1));
+        assert_eq!(other, [9, FILE, 0, 0, length, length + 4, length + 4]);
+        let other = changed_of(Edition::WithSeller, |file| file.told_edition = Some(0));
+        assert_eq!(other, [9, FILE, 0, 0, length + 4, length, length]);
         let rows = changed(|file| file.told_rows = Some(2_049));
         assert_eq!(rows, [1, HEADER, 0, 2, 2_049, 0, 2_048]);
         let transactions = changed(|file| file.told_transactions = Some(300));
@@ -366,13 +439,61 @@ mod tests {
         let price = changed(|file| file.loss[2] = 5_000_001);
         assert_eq!(price, [2, PRICE, 41, 0, 5_000_001, -5_000_000, 5_000_000]);
         for (field, most, number, change) in row_changes() {
-            let cause = changed(|file| change(file));
+            let cause = changed(change);
             assert_eq!(cause, [number, ROW, 2, field, most + 1, 0, most]);
         }
-        for (field, most, number, change) in transaction_changes() {
-            let cause = changed(|file| change(file));
-            assert_eq!(cause, [number, TRANSACTION, 3, field, most + 1, 0, most]);
+        for edition in Edition::ALL {
+            for (field, most, number, change) in transaction_changes() {
+                let cause = changed_of(edition, change);
+                assert_eq!(cause, [number, TRANSACTION, 3, field, most + 1, 0, most]);
+            }
         }
+        let seller = changed_of(Edition::WithSeller, |file| {
+            file.transactions[3].seller = Some(2)
+        });
+        assert_eq!(seller, [3, TRANSACTION, 3, 6, 2, 0, 1]);
+        for spare in 1..4 {
+            let cause = changed_of(Edition::WithSeller, |file| {
+                file.transaction_spares.push((3, spare))
+            });
+            assert_eq!(cause, [9, TRANSACTION, 3, 7, spare, 0, 0]);
+        }
+    }
+
+    /// Participant, seller, source, sink, kW, spare bits.
+    #[test]
+    fn order_of_a_sale() {
+        let mut cause = changed_of(Edition::WithSeller, spoil);
+        let mut seen = vec![cause[3]];
+        for mended in 1..6 {
+            cause = changed_of(Edition::WithSeller, |file| {
+                spoil(file);
+                let sale = &mut file.transactions[1];
+                for field in 0..mended {
+                    match field {
+                        0 => sale.participant = 0,
+                        1 => sale.seller = Some(0),
+                        2 => sale.source = 0,
+                        3 => sale.sink = 0,
+                        _ => sale.kw = 0,
+                    }
+                }
+            });
+            seen.push(cause[3]);
+        }
+        assert_eq!(cause, [9, TRANSACTION, 1, 7, 3, 0, 0]);
+        assert_eq!(seen, [2, 6, 3, 4, 5, 7]);
+    }
+
+    /// All of a sale but its market and interval is wrong.
+    fn spoil(file: &mut File) {
+        let sale = &mut file.transactions[1];
+        sale.participant = 2;
+        sale.seller = Some(2);
+        sale.source = 3;
+        sale.sink = 3;
+        sale.kw = 20_000_001;
+        file.transaction_spares.push((1, 3));
     }
 
     /// A field, the most that may stand there, the refusal, and one more there.
@@ -464,6 +585,7 @@ mod tests {
             locations: 1,
             rows: 1,
             transactions: 1,
+            edition: 0,
             prices: vec![0; 8 * 26],
             row_list: bytes(&[1, 0, 11, 1, 0, 600]),
             transaction_list: bytes(&[0, 0, 1, 0, 0, 600]),
@@ -496,6 +618,41 @@ mod tests {
     }
 
     #[test]
+    fn lists_with_a_seller() {
+        let sale = |seven: [i64; 7]| {
+            given(|given| {
+                given.edition = 1;
+                given.transaction_list = bytes(&seven);
+            })
+        };
+        assert_eq!(sale([0, 0, 1, 1, 0, 0, 600]), [0; 7]);
+        for (seven, told) in [
+            ([2, -1, 2, 2, 1, 1, -1], [4, TRANSACTION, 0, 0, 2, 0, 1]),
+            ([0, -1, 2, 2, 1, 1, -1], [4, TRANSACTION, 0, 1, -1, 0, 0]),
+            ([0, 0, 2, 2, 1, 1, -1], [3, TRANSACTION, 0, 2, 2, 0, 1]),
+            ([0, 0, 1, 2, 1, 1, -1], [3, TRANSACTION, 0, 6, 2, 0, 1]),
+            ([0, 0, 1, -1, 1, 1, -1], [3, TRANSACTION, 0, 6, -1, 0, 1]),
+            ([0, 0, 1, 0, 1, 1, -1], [3, TRANSACTION, 0, 3, 1, 0, 0]),
+            ([0, 0, 1, 0, 0, 1, -1], [3, TRANSACTION, 0, 4, 1, 0, 0]),
+            (
+                [0, 0, 1, 0, 0, 0, -1],
+                [2, TRANSACTION, 0, 5, -1, 0, 20_000_000],
+            ),
+        ] {
+            assert_eq!(sale(seven), told);
+        }
+        let cause = given(|given| given.edition = 1);
+        assert_eq!(cause, [1, LIST, 0, 2, 48, 56, 56]);
+        for edition in [-1, 2, 63, 64, i64::MIN, i64::MAX] {
+            let cause = given(|given| {
+                given.edition = edition;
+                given.participants = 0;
+            });
+            assert_eq!(cause, [9, HEADER, 0, 4, edition, 0, 1]);
+        }
+    }
+
+    #[test]
     fn a_cause_of_another_length() {
         for len in [0, 48, 55, 57, 64] {
             let mut list = vec![0x55; len];
@@ -513,20 +670,10 @@ mod tests {
             assert!(list == unhex(&f[3]), "line {line}");
         }
         for (line, f) in vectors::read("list_cause") {
-            let count = |at: usize| f[at].parse().unwrap();
-            let given = Given {
-                participants: count(0),
-                locations: count(1),
-                rows: count(2),
-                transactions: count(3),
-                prices: unhex(&f[4]),
-                row_list: unhex(&f[5]),
-                transaction_list: unhex(&f[6]),
-            };
-            let mut list = unhex(&f[7]);
-            let number = find_list_cause(&given, &mut list);
-            assert_eq!(number.to_string(), f[8], "line {line}");
-            assert!(list == unhex(&f[9]), "line {line}");
+            let mut list = unhex(&f[8]);
+            let number = find_list_cause(&Given::of(&f), &mut list);
+            assert_eq!(number.to_string(), f[9], "line {line}");
+            assert!(list == unhex(&f[10]), "line {line}");
         }
     }
 }

@@ -2,17 +2,20 @@
 
 use crate::cases::file::{document_01, prices, File};
 use crate::exercise::{
-    DAY_AHEAD, DECREMENT, EXPORT, GENERATION, IMPORT, INCREMENT, INTERVALS, LOAD, REAL_TIME,
+    Edition, DAY_AHEAD, DECREMENT, EXPORT, GENERATION, IMPORT, INCREMENT, INTERVALS, LOAD,
+    REAL_TIME,
 };
 use crate::files::Made;
 
-pub const ALL: [Made; 8] = [
+pub const ALL: [Made; 10] = [
     ("document-01", document_01),
     ("document-002-day-ahead", day_ahead),
     ("document-002-balancing", balancing),
     ("document-002-hour", hour),
     ("document-002-purchase", purchase),
+    ("document-002-seller", seller),
     ("never-showed-up", never_showed_up),
+    ("sale-cut-short", sale_cut_short),
     ("negative-surplus", negative_surplus),
     ("tie-for-the-last-cent", tie_for_the_last_cent),
 ];
@@ -81,6 +84,41 @@ fn purchase() -> Vec<u8> {
     file.bytes()
 }
 
+/// The whole hour with the purchase as a sale. The seller generates what it
+/// sells, and others pay the rest of the same surplus, 31.43.
+fn seller() -> Vec<u8> {
+    const SELLER: usize = 2;
+
+    let mut file = File::of(Edition::WithSeller, 3, LOCATIONS);
+    price_day_ahead(&mut file);
+    price_real_time(&mut file);
+    file.loss[ELSEWHERE] = 1_000;
+    all_along(&mut file, LOAD, OTHERS, ELSEWHERE, 650 * MW);
+    file.row(DAY_AHEAD, LOAD, 0, ABC, C, 200 * MW);
+    file.row(DAY_AHEAD, DECREMENT, 0, ABC, D, 10 * MW);
+    file.row(DAY_AHEAD, GENERATION, 0, ABC, A, 110 * MW);
+    file.row(DAY_AHEAD, INCREMENT, 0, ABC, A, 10 * MW);
+    file.row(DAY_AHEAD, GENERATION, 0, ABC, C, 0);
+    all_along(&mut file, LOAD, ABC, C, 220 * MW);
+    all_along(&mut file, GENERATION, ABC, A, 110 * MW);
+    all_along(&mut file, GENERATION, ABC, C, 37 * MW);
+    file.row(DAY_AHEAD, GENERATION, 0, SELLER, E, 100 * MW);
+    all_along(&mut file, GENERATION, SELLER, E, 100 * MW);
+    file.row(DAY_AHEAD, LOAD, 0, OTHERS, ELSEWHERE, 31_430);
+    file.sale(DAY_AHEAD, 0, ABC, SELLER, E, C, 100 * MW);
+    for interval in 0..INTERVALS {
+        file.sale(REAL_TIME, interval, ABC, SELLER, E, C, 100 * MW);
+    }
+    file.bytes()
+}
+
+/// A row in each interval.
+fn all_along(file: &mut File, kind: usize, participant: usize, location: usize, kw: i64) {
+    for interval in 0..INTERVALS {
+        file.row(REAL_TIME, kind, interval, participant, location, kw);
+    }
+}
+
 /// The real-time load of others: with ABC's 220 MW it makes 870 MW. The
 /// surplus of an hour without it would find nobody to go to.
 fn course() -> File {
@@ -126,16 +164,42 @@ fn run(file: &mut File) {
 
 // The teaching hours. Their pages tell what is in them in words.
 
+const HILL: usize = 0;
+const VALLEY: usize = 1;
+const TOWN: usize = 0;
+const VILLAGE: usize = 1;
+const WIND_FARM: usize = 2;
+const TRADER: usize = 3;
+
 /// A wind farm and a trader schedule a day ahead and have nothing in real time.
 fn never_showed_up() -> Vec<u8> {
-    const HILL: usize = 0;
-    const VALLEY: usize = 1;
-    const TOWN: usize = 0;
-    const VILLAGE: usize = 1;
-    const WIND_FARM: usize = 2;
-    const TRADER: usize = 3;
+    let mut file = hill_and_valley(Edition::PathOnly);
+    file.transaction(DAY_AHEAD, 0, TRADER, HILL, VALLEY, 10 * MW);
+    file.bytes()
+}
 
-    let mut file = File::new(4, 2);
+/// The trader buys from the wind farm, and in the last intervals nothing is
+/// sent.
+fn sale_cut_short() -> Vec<u8> {
+    let mut file = hill_and_valley(Edition::WithSeller);
+    file.sale(DAY_AHEAD, 0, TRADER, WIND_FARM, HILL, VALLEY, 10 * MW);
+    for interval in 0..9 {
+        file.sale(
+            REAL_TIME,
+            interval,
+            TRADER,
+            WIND_FARM,
+            HILL,
+            VALLEY,
+            10 * MW,
+        );
+    }
+    file.bytes()
+}
+
+/// The prices and rows of both.
+fn hill_and_valley(edition: Edition) -> File {
+    let mut file = File::of(edition, 4, 2);
     file.congestion = prices([1_000, 3_000], |interval| match interval {
         0..=8 => [1_200, 2_400],
         _ => [6_000, 9_600],
@@ -146,14 +210,9 @@ fn never_showed_up() -> Vec<u8> {
     });
     file.row(DAY_AHEAD, LOAD, 0, TOWN, VALLEY, 20 * MW);
     file.row(DAY_AHEAD, GENERATION, 0, WIND_FARM, HILL, 6 * MW);
-    for interval in 0..INTERVALS {
-        file.row(REAL_TIME, LOAD, interval, TOWN, VALLEY, 20 * MW);
-    }
-    for interval in 0..INTERVALS {
-        file.row(REAL_TIME, LOAD, interval, VILLAGE, VALLEY, 5 * MW);
-    }
-    file.transaction(DAY_AHEAD, 0, TRADER, HILL, VALLEY, 10 * MW);
-    file.bytes()
+    all_along(&mut file, LOAD, TOWN, VALLEY, 20 * MW);
+    all_along(&mut file, LOAD, VILLAGE, VALLEY, 5 * MW);
+    file
 }
 
 /// Load is paid for being where the loss price is below zero.
@@ -209,8 +268,8 @@ mod tests {
     /// The page that tells of an example.
     fn page(name: &str) -> &str {
         match name.strip_prefix("document-002-") {
+            Some("seller") | None => name,
             Some(_) => "document-002",
-            None => name,
         }
     }
 
@@ -283,7 +342,11 @@ mod tests {
     fn transactions_of(hour: &Hour) -> Vec<Line> {
         let line = |t: &Transaction| {
             let mw = decimal(t.kw, 0);
-            let after = format!("{} | {} | {} | {mw}", t.participant, t.source, t.sink);
+            let parties = match t.seller {
+                None => t.participant.to_string(),
+                Some(seller) => format!("{} | {seller}", t.participant),
+            };
+            let after = format!("{parties} | {} | {} | {mw}", t.source, t.sink);
             (MARKETS[t.market].to_string(), Some(t.interval), after)
         };
         hour.transactions.iter().map(line).collect()

@@ -1,5 +1,5 @@
 //! The exercise file: header, prices, rows and transactions, packed with the
-//! most significant bit first.
+//! most significant bit first, and its two editions (ticket 2 of document 02).
 
 use crate::bits::BitReader;
 use crate::MOST_KW;
@@ -8,7 +8,6 @@ pub const INTERVALS: usize = 12;
 pub const HEADER_BYTES: usize = 5;
 pub const PRICE_BYTES: usize = 3;
 pub const ROW_BYTES: usize = 6;
-pub const TRANSACTION_BYTES: usize = 6;
 
 pub const MOST_ROWS: usize = 2_048;
 pub const MOST_TRANSACTIONS: usize = 256;
@@ -24,6 +23,56 @@ pub const IMPORT: usize = 3;
 pub const DECREMENT: usize = 4;
 pub const INCREMENT: usize = 5;
 
+/// What a transaction is: a path alone, or also a sale.
+#[derive(Clone, Copy, Debug, PartialEq, Eq, PartialOrd, Ord)]
+pub enum Edition {
+    PathOnly,
+    WithSeller,
+}
+
+use Edition::{PathOnly, WithSeller};
+
+impl Edition {
+    pub const ALL: [Edition; 2] = [PathOnly, WithSeller];
+
+    pub fn of(number: i64) -> Option<Edition> {
+        match number {
+            0 => Some(PathOnly),
+            1 => Some(WithSeller),
+            _ => None,
+        }
+    }
+
+    pub fn number(self) -> i64 {
+        match self {
+            PathOnly => 0,
+            WithSeller => 1,
+        }
+    }
+
+    pub fn other(self) -> Edition {
+        match self {
+            PathOnly => WithSeller,
+            WithSeller => PathOnly,
+        }
+    }
+
+    pub fn transaction_bytes(self) -> usize {
+        match self {
+            PathOnly => 48 / 8,
+            WithSeller => 56 / 8,
+        }
+    }
+
+    /// Numbers of a transaction in a list.
+    pub fn transaction_numbers(self) -> usize {
+        match self {
+            PathOnly => 6,
+            WithSeller => 7,
+        }
+    }
+}
+
 #[derive(Clone, Debug, PartialEq)]
 pub struct Row {
     pub market: usize,
@@ -37,14 +86,15 @@ pub struct Row {
 impl Row {
     /// A row as lists have it.
     pub fn numbers(&self) -> [i64; 6] {
-        let fields = [
+        let [a, b, c, d, e] = [
             self.market,
             self.kind,
             self.interval,
             self.participant,
             self.location,
-        ];
-        six(fields, self.kw)
+        ]
+        .map(|field| field as i64);
+        [a, b, c, d, e, self.kw]
     }
 }
 
@@ -52,7 +102,10 @@ impl Row {
 pub struct Transaction {
     pub market: usize,
     pub interval: usize,
+    /// The buyer, where there is a seller.
     pub participant: usize,
+    /// None in a file of paths alone.
+    pub seller: Option<usize>,
     pub source: usize,
     pub sink: usize,
     pub kw: i64,
@@ -60,21 +113,13 @@ pub struct Transaction {
 
 impl Transaction {
     /// A transaction as lists have it.
-    pub fn numbers(&self) -> [i64; 6] {
-        let fields = [
-            self.market,
-            self.interval,
-            self.participant,
-            self.source,
-            self.sink,
-        ];
-        six(fields, self.kw)
+    pub fn numbers(&self) -> Vec<i64> {
+        let mut fields = vec![self.market, self.interval, self.participant];
+        fields.extend(self.seller);
+        fields.extend([self.source, self.sink]);
+        let fields = fields.into_iter().map(|field| field as i64);
+        fields.chain([self.kw]).collect()
     }
-}
-
-fn six(fields: [usize; 5], kw: i64) -> [i64; 6] {
-    let [a, b, c, d, e] = fields.map(|field| field as i64);
-    [a, b, c, d, e, kw]
 }
 
 /// Prices in mills per MWh by location, in real time by interval and location.
@@ -90,6 +135,7 @@ pub struct Header {
     pub locations: usize,
     pub rows: usize,
     pub transactions: usize,
+    pub edition: Edition,
 }
 
 impl Header {
@@ -102,7 +148,7 @@ impl Header {
     }
 
     pub fn file_length(&self) -> usize {
-        self.transactions_start() + self.transactions * TRANSACTION_BYTES
+        self.transactions_start() + self.transactions * self.edition.transaction_bytes()
     }
 }
 
@@ -150,35 +196,34 @@ pub fn decode_row(participants: i64, locations: i64, bytes: &[u8]) -> Result<Row
     Ok(row)
 }
 
-/// Decodes one transaction by itself, with the same order of refusals.
-pub fn decode_transaction(
-    participants: i64,
-    locations: i64,
-    bytes: &[u8],
-) -> Result<Transaction, u32> {
-    check_counts(participants, locations)?;
-    if bytes.len() != TRANSACTION_BYTES {
-        return Err(9);
-    }
+/// Decodes one transaction, with the same order of refusals.
+fn decode_transaction(header: &Header, bytes: &[u8]) -> Result<Transaction, u32> {
     let mut bits = BitReader::new(bytes);
+    let has_seller = header.edition == WithSeller;
     let transaction = Transaction {
         market: bits.take(1),
         interval: bits.take(4),
         participant: bits.take(6),
+        seller: has_seller.then(|| bits.take(6)),
         source: bits.take(6),
         sink: bits.take(6),
         kw: bits.take(25) as i64,
     };
+    let spare = if has_seller { bits.take(2) } else { 0 };
 
     check_interval(transaction.market, transaction.interval)?;
-    if transaction.participant >= participants as usize
-        || transaction.source >= locations as usize
-        || transaction.sink >= locations as usize
+    if transaction.participant >= header.participants
+        || matches!(transaction.seller, Some(seller) if seller >= header.participants)
+        || transaction.source >= header.locations
+        || transaction.sink >= header.locations
     {
         return Err(3);
     }
     if transaction.kw > MOST_KW {
         return Err(2);
+    }
+    if spare != 0 {
+        return Err(9);
     }
     Ok(transaction)
 }
@@ -211,12 +256,9 @@ pub fn read_header(file: &[u8]) -> Result<Header, u32> {
         locations: bits.take(6) + 1,
         rows: bits.take(12),
         transactions: bits.take(10),
+        edition: Edition::of(bits.take(6) as i64).ok_or(9_u32)?,
     };
-    let spare = bits.take(6);
 
-    if spare != 0 {
-        return Err(9);
-    }
     if header.rows > MOST_ROWS || header.transactions > MOST_TRANSACTIONS {
         return Err(1);
     }
@@ -240,8 +282,9 @@ pub fn read_hour(file: &[u8], header: &Header) -> Result<Hour, u32> {
         rows.push(decode_row(participants, locations, bytes)?);
     }
     let mut transactions = Vec::new();
-    for bytes in file[header.transactions_start()..].chunks(TRANSACTION_BYTES) {
-        transactions.push(decode_transaction(participants, locations, bytes)?);
+    let each = header.edition.transaction_bytes();
+    for bytes in file[header.transactions_start()..].chunks(each) {
+        transactions.push(decode_transaction(header, bytes)?);
     }
     Ok(Hour {
         participants: header.participants,
@@ -300,13 +343,58 @@ mod tests {
 
     #[test]
     fn longest_file() {
-        let header = Header {
-            participants: 64,
-            locations: 64,
-            rows: MOST_ROWS,
-            transactions: MOST_TRANSACTIONS,
+        let length = |edition| {
+            let header = Header {
+                participants: 64,
+                locations: 64,
+                rows: MOST_ROWS,
+                transactions: MOST_TRANSACTIONS,
+                edition,
+            };
+            header.file_length()
         };
-        assert_eq!(header.file_length(), 18_821);
+        assert_eq!(length(PathOnly), 18_821);
+        assert_eq!(length(WithSeller), 19_077);
+    }
+
+    #[test]
+    fn editions() {
+        for number in -1..=64 {
+            let edition = Edition::of(number);
+            assert_eq!(edition.is_some(), [0, 1].contains(&number));
+            assert!(edition.map_or(true, |edition| edition.number() == number));
+        }
+        let mut file = unhex("0000000000");
+        file.resize(5 + 78, 0);
+        for number in 0..64 {
+            file[4] = number;
+            assert_eq!(check(&file), if number < 2 { 0 } else { 9 });
+        }
+    }
+
+    /// Each field of a transaction with a seller by itself, and its spare bits.
+    #[test]
+    fn transaction_with_seller() {
+        let mut start = unhex("fff0000041");
+        start.resize(5 + 78 * 64, 0);
+        for (hex, numbers) in [
+            ("80000000000000", Ok([1, 0, 0, 0, 0, 0, 0])),
+            ("d8000000000000", Ok([1, 11, 0, 0, 0, 0, 0])),
+            ("07e00000000000", Ok([0, 0, 63, 0, 0, 0, 0])),
+            ("001f8000000000", Ok([0, 0, 0, 63, 0, 0, 0])),
+            ("00007e00000000", Ok([0, 0, 0, 0, 63, 0, 0])),
+            ("000001f8000000", Ok([0, 0, 0, 0, 0, 63, 0])),
+            ("00000004c4b400", Ok([0, 0, 0, 0, 0, 0, 20_000_000])),
+            ("00000004c4b404", Err(2)),
+            ("00000000000001", Err(9)),
+            ("00000000000002", Err(9)),
+            ("0000000000000003", Err(9)),
+        ] {
+            let file = [start.clone(), unhex(hex)].concat();
+            let hour = read_header(&file).and_then(|header| read_hour(&file, &header));
+            let read = hour.map(|hour| hour.transactions[0].numbers());
+            assert_eq!(read, numbers.map(|seven| seven.to_vec()), "{hex}");
+        }
     }
 
     #[test]

@@ -1,9 +1,12 @@
 //! Settling an hour the way sections 5.1 and 5.4 of the tariff go: for each
-//! participant, location and interval, and for each path.
+//! participant, location and interval, and for each path. A sale is a position
+//! of the buyer and one of the seller besides (ticket 2 of document 02).
 
 use std::collections::BTreeMap;
 
-use crate::exercise::{self, Hour, Prices, DAY_AHEAD, EXPORT, INTERVALS, LOAD, REAL_TIME};
+use crate::exercise::{
+    self, Hour, Prices, Transaction, DAY_AHEAD, EXPORT, INTERVALS, LOAD, REAL_TIME,
+};
 use crate::numbers;
 use crate::split::{parts_of, MOST_AMOUNT, MOST_SHARE};
 
@@ -23,6 +26,18 @@ struct Position {
 struct Path {
     day_ahead: i64,
     real_time: [i64; INTERVALS],
+}
+
+impl Position {
+    fn post(&mut self, market: usize, interval: usize, withdraws: bool, kw: i64) {
+        let to = match (market, withdraws) {
+            (DAY_AHEAD, true) => &mut self.withdrawn_day_ahead,
+            (DAY_AHEAD, false) => &mut self.injected_day_ahead,
+            (_, true) => &mut self.withdrawn_real_time[interval],
+            (_, false) => &mut self.injected_real_time[interval],
+        };
+        *to += kw;
+    }
 }
 
 /// What one participant has in the hour.
@@ -103,15 +118,18 @@ pub struct Charged {
 
 pub fn charged(hour: &Hour) -> Charged {
     let accounts = accounts(hour);
-    let charges = |prices: &Prices| -> Vec<i128> {
-        let exact = accounts.iter().map(|account| charge(account, prices));
-        exact.map(cents).collect()
-    };
+    let rounded = |prices: &Prices| exact(&accounts, prices).into_iter().map(cents).collect();
     Charged {
-        congestion: charges(&hour.congestion),
-        loss: charges(&hour.loss),
+        congestion: rounded(&hour.congestion),
+        loss: rounded(&hour.loss),
         shares: accounts.iter().map(|account| account.share).collect(),
     }
+}
+
+/// Each participant's charge in twelfths.
+fn exact(accounts: &[Account], prices: &Prices) -> Vec<i128> {
+    let charges = accounts.iter().map(|account| charge(account, prices));
+    charges.collect()
 }
 
 fn accounts(hour: &Hour) -> Vec<Account> {
@@ -127,13 +145,7 @@ fn accounts(hour: &Hour) -> Vec<Account> {
         let position = &mut account.positions[row.location];
         // Load, exports and decrement bids are the even kinds.
         let withdraws = row.kind % 2 == 0;
-        let kw = match (row.market, withdraws) {
-            (DAY_AHEAD, true) => &mut position.withdrawn_day_ahead,
-            (DAY_AHEAD, false) => &mut position.injected_day_ahead,
-            (_, true) => &mut position.withdrawn_real_time[row.interval],
-            (_, false) => &mut position.injected_real_time[row.interval],
-        };
-        *kw += row.kw;
+        position.post(row.market, row.interval, withdraws, row.kw);
         if row.market == REAL_TIME && (row.kind == LOAD || row.kind == EXPORT) {
             account.share += row.kw;
         }
@@ -148,8 +160,23 @@ fn accounts(hour: &Hour) -> Vec<Account> {
         } else {
             path.real_time[transaction.interval] += transaction.kw;
         }
+        if let Some(seller) = transaction.seller {
+            post_sale(&mut accounts, transaction, seller);
+        }
     }
     accounts
+}
+
+/// The buyer injects at the sink, and the seller withdraws at the source.
+/// Neither is load or an export.
+fn post_sale(accounts: &mut [Account], sale: &Transaction, seller: usize) {
+    for (participant, location, withdraws) in [
+        (sale.participant, sale.sink, false),
+        (seller, sale.source, true),
+    ] {
+        let position = &mut accounts[participant].positions[location];
+        position.post(sale.market, sale.interval, withdraws, sale.kw);
+    }
 }
 
 /// A participant's exact charge in twelfths of a millionth of a dollar.
@@ -203,8 +230,11 @@ fn narrow(cents: &[i128]) -> Vec<i64> {
 #[cfg(test)]
 mod tests {
     use super::*;
-    use crate::cases::file::document_01;
+    use crate::cases::file::{document_01, prices, File};
+    use crate::cases::hour::draw;
+    use crate::exercise::{read_header, read_hour, Edition, GENERATION};
     use crate::numbers::unhex;
+    use crate::random::Random;
     use crate::vectors;
 
     fn settled(file: &[u8], participants: usize) -> (u32, [Vec<i64>; 4]) {
@@ -230,6 +260,128 @@ mod tests {
         assert_eq!(loss, [1000, 390]);
         assert_eq!(credit, [927, 463]);
         assert_eq!(net, [73, -73]);
+    }
+
+    /// Prices that differ by market, interval and location, so that a leg in
+    /// another place costs something else.
+    fn priced(edition: Edition) -> File {
+        let mut file = File::of(edition, 3, 2);
+        file.congestion = prices([1_000, 3_000], |interval| {
+            let step = 12 * interval as i64;
+            [5_000 + step, 9_000 + 2 * step]
+        });
+        file
+    }
+
+    fn congestion_of(file: &File) -> Vec<i128> {
+        let file = file.bytes();
+        let hour = read_hour(&file, &read_header(&file).unwrap()).unwrap();
+        exact(&accounts(&hour), &hour.congestion)
+    }
+
+    /// 10 kW from location 0 to location 1, in interval 2 and day-ahead: what
+    /// the buyer and the seller have are a generator's and a load's rows.
+    #[test]
+    fn legs_are_positions() {
+        for (market, interval) in [(REAL_TIME, 2), (DAY_AHEAD, 0)] {
+            let mut sale = priced(Edition::WithSeller);
+            sale.sale(market, interval, 1, 2, 0, 1, 10);
+            let mut rows = priced(Edition::PathOnly);
+            rows.transaction(market, interval, 1, 0, 1, 10);
+            rows.row(market, GENERATION, interval, 1, 1, 10);
+            rows.row(market, LOAD, interval, 2, 0, 10);
+            assert_eq!(congestion_of(&sale), congestion_of(&rows));
+        }
+    }
+
+    /// By hand. In real time the path is 10 x (9,048 - 5,024), the injection at
+    /// the sink -10 x 9,048 and the withdrawal at the source 10 x 5,024. A
+    /// day-ahead kW costs 12 times the day-ahead price less the sum of the
+    /// intervals': at the source 12,000 - 60,792, at the sink 36,000 - 109,584.
+    #[test]
+    fn what_a_sale_costs() {
+        let mut file = priced(Edition::WithSeller);
+        file.sale(REAL_TIME, 2, 1, 2, 0, 1, 10);
+        assert_eq!(congestion_of(&file), [0, 40_240 - 90_480, 50_240]);
+        let mut file = priced(Edition::WithSeller);
+        file.sale(DAY_AHEAD, 0, 1, 2, 0, 1, 10);
+        let path = 10 * (-73_584 + 48_792);
+        assert_eq!(congestion_of(&file), [0, path + 735_840, -487_920]);
+        // One who buys of itself pays for nothing.
+        let mut file = priced(Edition::WithSeller);
+        file.sale(DAY_AHEAD, 0, 1, 1, 0, 1, 10);
+        file.sale(REAL_TIME, 11, 0, 0, 1, 0, 7);
+        assert_eq!(congestion_of(&file), [0; 3]);
+    }
+
+    /// A sale adds exactly nothing to the total of all, whatever else there is.
+    #[test]
+    fn sales_add_nothing_to_the_total() {
+        let mut random = Random::new(1);
+        let mut tried = 0;
+        for turn in 0..2_000 {
+            let (file, _) = draw(turn, &mut random);
+            let with_seller = read_header(&file)
+                .ok()
+                .filter(|header| header.edition == Edition::WithSeller);
+            let mut hour = match with_seller.map(|header| read_hour(&file, &header)) {
+                Some(Ok(hour)) => hour,
+                _ => continue,
+            };
+            let totals = |hour: &Hour| {
+                let accounts = accounts(hour);
+                let total = |prices| exact(&accounts, prices).iter().sum::<i128>();
+                [total(&hour.congestion), total(&hour.loss)]
+            };
+            let with = totals(&hour);
+            tried += usize::from(!hour.transactions.is_empty());
+            hour.transactions.clear();
+            assert_eq!(with, totals(&hour), "turn {turn}");
+        }
+        assert!(tried > 300, "{tried}");
+    }
+
+    /// A sale is no share of the surplus: that of an hour with sales alone finds
+    /// nobody to go to.
+    #[test]
+    fn sales_are_no_shares() {
+        let mut file = priced(Edition::WithSeller);
+        file.loss = prices([0, 0], |_| [12_000, 1]);
+        file.sale(REAL_TIME, 0, 1, 2, 0, 1, 600_000);
+        assert_eq!(settled(&file.bytes(), 3).0, 0);
+        file.row(DAY_AHEAD, GENERATION, 0, 0, 0, 600_000);
+        assert_eq!(settled(&file.bytes(), 3).0, 7);
+        file.row(REAL_TIME, LOAD, 0, 0, 1, 1);
+        let (number, [_, loss, credit, _]) = settled(&file.bytes(), 3);
+        assert_eq!(number, 0);
+        assert_eq!(credit, [loss.iter().sum(), 0, 0]);
+    }
+
+    /// Without a transaction the edition makes no difference.
+    #[test]
+    fn editions_agree_without_transactions() {
+        let mut random = Random::new(2);
+        let mut tried = 0;
+        for turn in 0..2_000 {
+            let (mut file, _) = draw(turn, &mut random);
+            let is_tried = read_header(&file).map_or(false, |header| header.transactions == 0);
+            if !is_tried {
+                continue;
+            }
+            let before = statement(&file);
+            file[4] ^= 1;
+            assert_eq!(statement(&file), before, "turn {turn}");
+            tried += 1;
+        }
+        assert!(tried > 100, "{tried}");
+    }
+
+    /// A transaction of edition 0 posts nothing.
+    #[test]
+    fn paths_post_nothing() {
+        let mut file = priced(Edition::PathOnly);
+        file.transaction(REAL_TIME, 2, 1, 0, 1, 10);
+        assert_eq!(congestion_of(&file), [0, 10 * (9_048 - 5_024), 0]);
     }
 
     #[test]

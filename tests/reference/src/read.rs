@@ -1,9 +1,9 @@
 //! Reading an exercise file as numbers, those that it would be written from
-//! (ticket 1 of document 02).
+//! (tickets 1 and 2 of document 02).
 
 use crate::exercise::{read_header, read_hour, Header, Hour, Prices};
 use crate::numbers;
-use crate::write::{FIELDS, STRETCHES};
+use crate::write::{ROW_NUMBERS, STRETCHES};
 
 /// What `wz_read_file` does and answers. The lists are those of prices, rows
 /// and transactions.
@@ -22,8 +22,8 @@ pub fn read_file(file: &[u8], lists: &mut [Vec<u8>; 3]) -> u32 {
 pub fn lens_of(header: &Header) -> [usize; 3] {
     [
         8 * STRETCHES * header.locations,
-        8 * FIELDS * header.rows,
-        8 * FIELDS * header.transactions,
+        8 * ROW_NUMBERS * header.rows,
+        8 * header.edition.transaction_numbers() * header.transactions,
     ]
 }
 
@@ -57,6 +57,7 @@ fn transactions_of(hour: &Hour) -> Vec<i64> {
 mod tests {
     use super::*;
     use crate::cases::file::{document_01, File};
+    use crate::exercise::Edition;
     use crate::numbers::unhex;
     use crate::vectors;
 
@@ -92,6 +93,17 @@ mod tests {
         assert_eq!(prices, (-40..38).collect::<Vec<i64>>());
         assert_eq!(rows, []);
         assert_eq!(transactions, [1, 11, 0, 1, 2, 20_000_000]);
+    }
+
+    #[test]
+    fn seven_numbers_with_a_seller() {
+        let mut file = File::of(Edition::WithSeller, 4, 3);
+        file.sale(1, 11, 0, 3, 1, 2, 20_000_000);
+        file.sale(0, 0, 2, 2, 0, 0, 5);
+        let (number, [_, _, transactions]) = read(&file.bytes());
+        assert_eq!(number, 0);
+        assert_eq!(transactions[..7], [1, 11, 0, 3, 1, 2, 20_000_000]);
+        assert_eq!(transactions[7..], [0, 0, 2, 2, 0, 0, 5]);
     }
 
     /// Lists come after the file's length and before its prices.

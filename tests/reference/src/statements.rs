@@ -3,16 +3,19 @@
 
 use crate::cases::file::{prices, File};
 use crate::exercise::{
-    DAY_AHEAD, DECREMENT, EXPORT, GENERATION, IMPORT, INCREMENT, INTERVALS, LOAD, MOST_PRICE,
-    REAL_TIME,
+    Edition, DAY_AHEAD, DECREMENT, EXPORT, GENERATION, IMPORT, INCREMENT, INTERVALS, LOAD,
+    MOST_PRICE, REAL_TIME,
 };
 use crate::files::Made;
 use crate::MOST_KW;
 
-pub const ALL: [Made; 56] = [
+pub const ALL: [Made; 68] = [
     ("smallest", || File::new(1, 1).bytes()),
-    ("largest", largest),
+    ("largest", || largest().bytes()),
+    ("largest-with-seller", || largest_with_seller().bytes()),
     ("sound", || sound().bytes()),
+    ("sound-with-seller", || sound_with_seller().bytes()),
+    ("no-sale", || spoilt_sale(|file| file.transactions.clear())),
     ("negative-charges", negative_charges),
     ("no-surplus-no-shares", no_surplus_no_shares),
     ("limit-surplus-above", || surplus(LOAD, 499)),
@@ -49,6 +52,9 @@ pub const ALL: [Made; 56] = [
     }),
     ("refused-3-transaction-participant", || {
         spoilt(|file| file.transactions[1].participant = 2)
+    }),
+    ("refused-3-transaction-seller", || {
+        spoilt_sale(|file| file.transactions[1].seller = Some(2))
     }),
     ("refused-3-transaction-source", || {
         spoilt(|file| file.transactions[1].source = 3)
@@ -100,7 +106,10 @@ pub const ALL: [Made; 56] = [
     ("refused-7-load-of-0-kw", || {
         spoilt(|file| file.rows[1].kw = 0)
     }),
-    // 9: lengths and spare bits.
+    ("refused-7-sale", || {
+        spoilt_sale(|file| file.rows[1].kind = GENERATION)
+    }),
+    // 9: lengths, editions and spare bits.
     ("refused-9-empty", Vec::new),
     ("refused-9-four-bytes", || sound().bytes()[..4].to_vec()),
     ("refused-9-header-alone", || sound().bytes()[..5].to_vec()),
@@ -115,25 +124,46 @@ pub const ALL: [Made; 56] = [
         file
     }),
     ("refused-9-longer-than-longest", || {
-        let mut file = largest();
+        let mut file = largest().bytes();
+        file.push(0);
+        file
+    }),
+    ("refused-9-longer-than-longest-with-seller", || {
+        let mut file = largest_with_seller().bytes();
         file.push(0);
         file
     }),
     ("refused-9-much-longer", || {
-        let file = largest();
+        let file = largest().bytes();
         file.iter().cycle().take(40_000).copied().collect()
     }),
-    ("refused-9-header-spare-first", || {
-        spoilt(|file| file.spare = 0b10_0000)
+    ("refused-9-edition-2", || {
+        spoilt_sale(|file| file.told_edition = Some(2))
     }),
-    ("refused-9-header-spare-last", || {
-        spoilt(|file| file.spare = 1)
+    ("refused-9-edition-32", || {
+        spoilt(|file| file.told_edition = Some(32))
+    }),
+    ("refused-9-edition-63", || {
+        spoilt(|file| file.told_edition = Some(63))
+    }),
+    // With the length that the other edition has.
+    ("refused-9-paths-as-edition-1", || {
+        spoilt(|file| file.told_edition = Some(1))
+    }),
+    ("refused-9-sales-as-edition-0", || {
+        spoilt_sale(|file| file.told_edition = Some(0))
     }),
     ("refused-9-row-spare-first", || {
         spoilt(|file| file.row_spares.push((1, 0b100)))
     }),
     ("refused-9-row-spare-last", || {
         spoilt(|file| file.row_spares.push((1, 1)))
+    }),
+    ("refused-9-transaction-spare-first", || {
+        spoilt_sale(|file| file.transaction_spares.push((1, 0b10)))
+    }),
+    ("refused-9-transaction-spare-last", || {
+        spoilt_sale(|file| file.transaction_spares.push((1, 1)))
     }),
     // 10: limits of the surplus and of a share.
     ("refused-10-surplus-above", || surplus(LOAD, 500)),
@@ -142,7 +172,7 @@ pub const ALL: [Made; 56] = [
     // The order of refusals.
     ("refused-9-before-1", || {
         spoilt(|file| {
-            file.spare = 1;
+            file.told_edition = Some(2);
             file.told_rows = Some(2_049);
         })
     }),
@@ -168,6 +198,12 @@ pub const ALL: [Made; 56] = [
         spoilt(|file| {
             file.rows[1].kw = MOST_KW + 1;
             file.row_spares.push((1, 1));
+        })
+    }),
+    ("refused-2-before-9-of-a-sale", || {
+        spoilt_sale(|file| {
+            file.transactions[1].kw = MOST_KW + 1;
+            file.transaction_spares.push((1, 1));
         })
     }),
     ("refused-9-before-4", || {
@@ -203,6 +239,46 @@ fn sound() -> File {
 
 fn spoilt(fault: fn(&mut File)) -> Vec<u8> {
     let mut file = sound();
+    fault(&mut file);
+    file.bytes()
+}
+
+/// The prices and rows of `sound`, and a sale day-ahead and one in real time,
+/// each of one participant to the other.
+///
+/// By hand, congestion in cents, 10,000 of kW times mills each. Participant 0:
+///
+/// - day-ahead its load is 20,000 x 2,000, 4,000; what it buys, an injection at
+///   location 2, -5,000 x 2,000, -1,000; and the path to it from location 1
+///   5,000 x (2,000 - 1,000), 500;
+/// - in real time, in each interval at location 2, A is 0, B 20,000, D 0 and E
+///   5,000: -15,000 x 2,400 / 12, -300, and -3,600 in all; the path falls short
+///   by 5,000 at (2,400 - 1,200) / 12, -50, and -600 in all; what it sells in
+///   interval 11, a withdrawal at location 1, is 7,000 x 1,200 / 12, 70.
+///
+/// That is -630. Participant 1:
+///
+/// - day-ahead what it sells is a withdrawal at location 1, 5,000 x 1,000, 500;
+/// - in real time, in each interval at location 1, B is 5,000: -5,000 x 1,200 /
+///   12, -50, and -600 in all; in interval 11 at location 2 A is 30,000 and D,
+///   what it buys, 7,000: 23,000 x 2,400 / 12, 460; and the path 7,000 x (2,400
+///   - 1,200) / 12, 70.
+///
+/// That is 430, and together -200, as without the sales: 4,000 - 4,800 + 600.
+/// Loss prices are a tenth of those of congestion, and so are the charges, -63
+/// and 43. Only participant 1 has real-time load: all of the surplus, -20, is
+/// its credit.
+fn sound_with_seller() -> File {
+    let mut file = sound();
+    file.edition = Edition::WithSeller;
+    file.transactions.clear();
+    file.sale(DAY_AHEAD, 0, 0, 1, 1, 2, 5_000);
+    file.sale(REAL_TIME, 11, 1, 0, 1, 2, 7_000);
+    file
+}
+
+fn spoilt_sale(fault: fn(&mut File)) -> Vec<u8> {
+    let mut file = sound_with_seller();
     fault(&mut file);
     file.bytes()
 }
@@ -300,7 +376,7 @@ fn largest_charge(price: i64) -> Vec<u8> {
 /// on. What one participant withdraws another injects, but for 999 kW, and what
 /// one has over a path another has the other way, so that loss charges of
 /// either sign are large and the surplus isn't.
-fn largest() -> Vec<u8> {
+fn largest() -> File {
     let mut file = File::new(64, 64);
     for at in 0..13 * 64 {
         let sign = |below: bool| if below { -1 } else { 1 };
@@ -327,5 +403,22 @@ fn largest() -> Vec<u8> {
         file.transaction(market, interval, one, source, sink, kw);
         file.transaction(market, interval, other, sink, source, kw - 999);
     }
-    file.bytes()
+    file
+}
+
+/// The same with a seller of each transaction, once in 16 the buyer itself.
+fn largest_with_seller() -> File {
+    let mut file = largest();
+    file.edition = Edition::WithSeller;
+    for (at, transaction) in file.transactions.iter_mut().enumerate() {
+        let step = 1 + at % 63;
+        let seller = (transaction.participant + step) % 64;
+        let is_buyer = at % 16 == 7;
+        transaction.seller = Some(if is_buyer {
+            transaction.participant
+        } else {
+            seller
+        });
+    }
+    file
 }

@@ -1,8 +1,8 @@
-//! Writing the exercise file of an hour that is given in numbers (ticket 1 of
-//! document 02).
+//! Writing the exercise file of an hour that is given in numbers (tickets 1 and
+//! 2 of document 02).
 
 use crate::bits::BitWriter;
-use crate::exercise::{INTERVALS, MOST_PRICE, MOST_ROWS, MOST_TRANSACTIONS, PRICE_BYTES};
+use crate::exercise::{Edition, INTERVALS, MOST_PRICE, MOST_ROWS, MOST_TRANSACTIONS, PRICE_BYTES};
 use crate::numbers;
 use crate::MOST_KW;
 
@@ -13,9 +13,29 @@ pub struct Given {
     pub locations: i64,
     pub rows: i64,
     pub transactions: i64,
+    pub edition: i64,
     pub prices: Vec<u8>,
     pub row_list: Vec<u8>,
     pub transaction_list: Vec<u8>,
+}
+
+#[cfg(test)]
+impl Given {
+    /// The first fields of a vector.
+    pub fn of(fields: &[String]) -> Given {
+        let number = |at: usize| fields[at].parse().unwrap();
+        let list = |at: usize| numbers::unhex(&fields[at]);
+        Given {
+            participants: number(0),
+            locations: number(1),
+            rows: number(2),
+            transactions: number(3),
+            edition: number(4),
+            prices: list(5),
+            row_list: list(6),
+            transaction_list: list(7),
+        }
+    }
 }
 
 /// What `wz_write_file` does and answers.
@@ -37,11 +57,12 @@ pub fn write_file(given: &Given, file: &mut [u8]) -> u32 {
 /// interval.
 pub const STRETCHES: usize = 2 * (1 + INTERVALS);
 
-/// Numbers of a row, and of a transaction.
-pub const FIELDS: usize = 6;
+/// Numbers of a row.
+pub const ROW_NUMBERS: usize = 6;
 
 /// The bytes of the file, or the refusal that comes before that of the buffer.
 fn file_of(given: &Given) -> Result<Vec<u8>, u32> {
+    let edition = Edition::of(given.edition).ok_or(9_u32)?;
     for (count, least, most) in [
         (given.participants, 1, 64),
         (given.locations, 1, 64),
@@ -53,8 +74,9 @@ fn file_of(given: &Given) -> Result<Vec<u8>, u32> {
         }
     }
     let prices = list(&given.prices, STRETCHES as i64 * given.locations)?;
-    let rows = list(&given.row_list, FIELDS as i64 * given.rows)?;
-    let transactions = list(&given.transaction_list, FIELDS as i64 * given.transactions)?;
+    let rows = list(&given.row_list, ROW_NUMBERS as i64 * given.rows)?;
+    let each = edition.transaction_numbers();
+    let transactions = list(&given.transaction_list, each as i64 * given.transactions)?;
 
     if !prices
         .iter()
@@ -62,13 +84,13 @@ fn file_of(given: &Given) -> Result<Vec<u8>, u32> {
     {
         return Err(2);
     }
-    for row in rows.chunks(FIELDS) {
+    for row in rows.chunks(ROW_NUMBERS) {
         test_row(row, given)?;
     }
-    for transaction in transactions.chunks(FIELDS) {
-        test_transaction(transaction, given)?;
+    for transaction in transactions.chunks(each) {
+        test_transaction(transaction, edition, given)?;
     }
-    Ok(pack(given, &prices, &rows, &transactions))
+    Ok(pack(given, edition, &prices, &rows, &transactions))
 }
 
 /// The numbers of a list that must have so many.
@@ -88,13 +110,21 @@ fn test_row(row: &[i64], given: &Given) -> Result<(), u32> {
     among(row[5], MOST_KW + 1, 2)
 }
 
-fn test_transaction(transaction: &[i64], given: &Given) -> Result<(), u32> {
-    let (_, intervals) = market(transaction[0])?;
-    among(transaction[1], intervals, 4)?;
-    among(transaction[2], given.participants, 3)?;
-    among(transaction[3], given.locations, 3)?;
-    among(transaction[4], given.locations, 3)?;
-    among(transaction[5], MOST_KW + 1, 2)
+fn test_transaction(transaction: &[i64], edition: Edition, given: &Given) -> Result<(), u32> {
+    let (start, rest) = transaction.split_at(3);
+    let (_, intervals) = market(start[0])?;
+    among(start[1], intervals, 4)?;
+    among(start[2], given.participants, 3)?;
+    let rest = match edition {
+        Edition::PathOnly => rest,
+        Edition::WithSeller => {
+            among(rest[0], given.participants, 3)?;
+            &rest[1..]
+        }
+    };
+    among(rest[0], given.locations, 3)?;
+    among(rest[1], given.locations, 3)?;
+    among(rest[2], MOST_KW + 1, 2)
 }
 
 /// How many kinds and intervals there are in a market.
@@ -117,27 +147,39 @@ fn among(number: i64, count: i64, refusal: u32) -> Result<(), u32> {
 
 const HEADER_BITS: [usize; 5] = [6, 6, 12, 10, 6];
 const ROW_BITS: [usize; 7] = [1, 3, 4, 6, 6, 25, 3];
-const TRANSACTION_BITS: [usize; 6] = [1, 4, 6, 6, 6, 25];
+const PATH_BITS: [usize; 6] = [1, 4, 6, 6, 6, 25];
+const SALE_BITS: [usize; 8] = [1, 4, 6, 6, 6, 6, 25, 2];
 const SPARE: i64 = 0;
 
-fn pack(given: &Given, prices: &[i64], rows: &[i64], transactions: &[i64]) -> Vec<u8> {
+fn pack(
+    given: &Given,
+    edition: Edition,
+    prices: &[i64],
+    rows: &[i64],
+    transactions: &[i64],
+) -> Vec<u8> {
     let mut writer = BitWriter::new();
     let header = [
         given.participants - 1,
         given.locations - 1,
         given.rows,
         given.transactions,
-        SPARE,
+        given.edition,
     ];
     put_all(&mut writer, &HEADER_BITS, &header);
     for &price in prices {
         writer.put(8 * PRICE_BYTES, price);
     }
-    for row in rows.chunks(FIELDS) {
+    for row in rows.chunks(ROW_NUMBERS) {
         put_all(&mut writer, &ROW_BITS, &[row, &[SPARE]].concat());
     }
-    for transaction in transactions.chunks(FIELDS) {
-        put_all(&mut writer, &TRANSACTION_BITS, transaction);
+    for transaction in transactions.chunks(edition.transaction_numbers()) {
+        match edition {
+            Edition::PathOnly => put_all(&mut writer, &PATH_BITS, transaction),
+            Edition::WithSeller => {
+                put_all(&mut writer, &SALE_BITS, &[transaction, &[SPARE]].concat())
+            }
+        }
     }
     writer.bytes
 }
@@ -162,6 +204,7 @@ mod tests {
             locations: 1,
             rows: 1,
             transactions: 0,
+            edition: 0,
             prices: vec![0; 8 * 26],
             row_list: bytes(&[1, 0, 11, 1, 0, 600]),
             transaction_list: vec![],
@@ -192,6 +235,18 @@ mod tests {
         assert_eq!(file, unhex("04000100{80}8b04000012c0"));
     }
 
+    /// The second of the header's comment.
+    #[test]
+    fn one_row_and_a_sale() {
+        let mut given = one_row();
+        given.edition = 1;
+        given.transactions = 1;
+        given.transaction_list = bytes(&[0, 0, 1, 0, 0, 0, 600]);
+        let file = written(&given);
+        assert_eq!(file.len(), 96);
+        assert_eq!(file, unhex("040001004100{78}8b04000012c000200000000960"));
+    }
+
     #[test]
     fn the_exercise_of_document_01() {
         let loss = [120, 600].repeat(13);
@@ -200,6 +255,7 @@ mod tests {
             locations: 2,
             rows: 3,
             transactions: 0,
+            edition: 0,
             prices: bytes(&[vec![0; 26], loss].concat()),
             row_list: bytes(
                 &[
@@ -238,6 +294,76 @@ mod tests {
             assert_eq!(file[..14], unhex("fff0000040ffffffb3b4c04c4b40"));
             assert_eq!(file[file.len() - 6..], unhex(hex));
         }
+        given.edition = 1;
+        for (seven, hex) in [
+            ([1, 0, 0, 0, 0, 0, 0], "80000000000000"),
+            ([1, 11, 0, 0, 0, 0, 0], "d8000000000000"),
+            ([0, 0, 63, 0, 0, 0, 0], "07e00000000000"),
+            ([0, 0, 0, 63, 0, 0, 0], "001f8000000000"),
+            ([0, 0, 0, 0, 63, 0, 0], "00007e00000000"),
+            ([0, 0, 0, 0, 0, 63, 0], "000001f8000000"),
+            ([0, 0, 0, 0, 0, 0, 20_000_000], "00000004c4b400"),
+        ] {
+            given.transaction_list = bytes(&seven);
+            let file = written(&given);
+            assert_eq!(file.len(), 5 + 78 * 64 + 7);
+            assert_eq!(file[..14], unhex("fff0000041ffffffb3b4c04c4b40"));
+            assert_eq!(file[file.len() - 7..], unhex(hex));
+        }
+    }
+
+    /// The edition is tested before all else.
+    #[test]
+    fn editions() {
+        for edition in [-1, 2, 63, 64, 1 << 32, 1 + (1 << 32), i64::MIN, i64::MAX] {
+            assert_eq!(refusal(|given| given.edition = edition), 9);
+            let all_wrong = |given: &mut Given| {
+                given.edition = edition;
+                given.participants = 0;
+                given.prices.clear();
+            };
+            assert_eq!(refusal(all_wrong), 9);
+        }
+        // Without a transaction either will do.
+        assert_eq!(refusal(|given| given.edition = 1), 0);
+    }
+
+    /// A list of the other edition's length is refused; seven numbers in the
+    /// place of six, and six in that of seven.
+    #[test]
+    fn lists_of_the_other_edition() {
+        let of = |edition: i64, numbers: usize, transactions: i64| {
+            refusal(|given| {
+                given.edition = edition;
+                given.transactions = transactions;
+                given.transaction_list = vec![0; 8 * numbers];
+            })
+        };
+        assert_eq!([of(0, 6, 1), of(0, 7, 1)], [0, 1]);
+        assert_eq!([of(1, 6, 1), of(1, 7, 1)], [1, 0]);
+        assert_eq!([of(0, 42, 7), of(1, 42, 6)], [0, 0]);
+    }
+
+    /// Participant, seller, source, sink, kW in this order.
+    #[test]
+    fn order_of_a_sale() {
+        let of = |seven: [i64; 7]| {
+            refusal(|given| {
+                given.edition = 1;
+                given.transactions = 1;
+                given.transaction_list = bytes(&seven);
+            })
+        };
+        assert_eq!(of([1, 11, 1, 1, 0, 0, 20_000_000]), 0);
+        assert_eq!(of([0, 1, 9, 9, 9, 9, -1]), 4);
+        for field in 2..6 {
+            let mut seven = [1, 11, 1, 1, 0, 0, 20_000_001];
+            seven[field] = 2;
+            assert_eq!(of(seven), 3);
+            seven[field] = -1;
+            assert_eq!(of(seven), 3);
+        }
+        assert_eq!(of([1, 11, 1, 1, 0, 0, 20_000_001]), 2);
     }
 
     #[test]
@@ -336,23 +462,10 @@ mod tests {
     #[test]
     fn vectors() {
         for (line, f) in vectors::read("write") {
-            let count = |at: usize| f[at].parse().unwrap();
-            let given = Given {
-                participants: count(0),
-                locations: count(1),
-                rows: count(2),
-                transactions: count(3),
-                prices: unhex(&f[4]),
-                row_list: unhex(&f[5]),
-                transaction_list: unhex(&f[6]),
-            };
-            let mut file = unhex(&f[7]);
-            assert_eq!(
-                write_file(&given, &mut file).to_string(),
-                f[8],
-                "line {line}"
-            );
-            assert!(file == unhex(&f[9]), "line {line}");
+            let mut file = unhex(&f[8]);
+            let number = write_file(&Given::of(&f), &mut file);
+            assert_eq!(number.to_string(), f[9], "line {line}");
+            assert!(file == unhex(&f[10]), "line {line}");
         }
     }
 }

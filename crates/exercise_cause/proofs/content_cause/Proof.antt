@@ -1,18 +1,23 @@
 -- `exercise_cause::content_cause` meets its contract. Assumes nothing.
-use mathlib.Core.Path.{_≡_, ap₂, sym, subst, _∙_}
+use mathlib.Core.Path.{_≡_, ap, ap₂, sym, subst, _∙_}
+use mathlib.Core.Bool.{true}
 use mathlib.Core.List.{List}
-use Prim.Native.Nat.{ℕ, _≤_}
+use Prim.Native.Nat.{ℕ, _*_, _≤_}
 use native.Mathlib.Omega.{arith}
 use borrow.Author.Needs.{needs}
 use Rattle.hour.specs.Cause.{contentCause}
+use Rattle.hour.specs.InsideCause.{firstFrom}
 use Rattle.hour.specs.declared.Cause.{Cause}
+use Rattle.hour.specs.declared.Edition.{Edition}
 use Rattle.hour.proofs.Causes.{or-made}
 use Rattle.exercise.specs.File.{bytesFrom, hourOf}
 use Rattle.exercise.specs.Inside.{Small}
+use Rattle.exercise.specs.Layout.{transactionSize}
 use Rattle.exercise.specs.Order.{spareOf}
 use Rattle.exercise.specs.declared.Header.{Header}
 use Rattle.exercise.specs.declared.Places.{Places}
 use Rattle.exercise.proofs.Whole.{Found, found, whole, small-read, some-participant, some-location}
+use Rattle.exercise_cause.specs.Inside.{causeAt}
 use Rattle.exercise_cause.proofs.Content.{stretchesCause, content-is}
 use Rattle.exercise_cause.proofs.content_cause.Statement.{statement}
 use Rattle.exercise_cause.proofs.content_cause.Tie as tie
@@ -21,29 +26,38 @@ use Rattle.exercise_cause.proofs.content_cause.Tie as tie
 abbrev readCause : Header → Places → List ℕ → Cause
 readCause h p file = stretchesCause h (bytesFrom (p .prices) (p .rows) file) (bytesFrom (p .rows) (p .transactions) file) (bytesFrom (p .transactions) (p .end) file)
 
-abbrev start : tie.After-places-of → tie.Start
-start c = c .before .before .before
+abbrev start : tie.After-edition-of → tie.Start
+start c = c .before .before .before .before
 
-here : (c : tie.After-places-of) → Found (start c .args .file .now) (c .before .read-header .result) (c .places-of .result)
-here c = found _ (start c .pre) _ (c .before .read-header .ensures) _ (c .places-of .ensures)
+abbrev head : tie.After-edition-of → Header
+head c = c .before .before .read-header .result
 
-counts : (c : tie.After-places-of) → Small (c .before .read-header .result)
-counts c = small-read _ _ (c .before .read-header .ensures)
+abbrev laid : tie.After-edition-of → Places
+laid c = c .before .places-of .result
 
-some : (c : tie.After-places-of) → let h = c .before .read-header .result in (1 ≤ h .participants) × (h .participants ≤ 64) × (1 ≤ h .locations) × (h .locations ≤ 64)
+here : (c : tie.After-edition-of) → Found (start c .args .file .now) (head c) (laid c)
+here c = found _ (start c .pre) _ (c .before .before .read-header .ensures) _ (c .before .places-of .ensures)
+
+counts : (c : tie.After-edition-of) → Small (head c)
+counts c = small-read _ _ (c .before .before .read-header .ensures)
+
+some : (c : tie.After-edition-of) → let h = head c in (1 ≤ h .participants) × (h .participants ≤ 64) × (1 ≤ h .locations) × (h .locations ≤ 64)
 some c =
     let file = start c .args .file .now in
-    let same = sym (c .before .read-header .ensures) in
+    let same = sym (c .before .before .read-header .ensures) in
     (subst (λ (h : Header). 1 ≤ h .participants) same (some-participant file), counts c .participants, subst (λ (h : Header). 1 ≤ h .locations) same (some-location file), counts c .locations)
 
-order : (c : tie.After-places-of) → let file = start c .args .file .now in readCause (c .before .read-header .result) (c .places-of .result) file ≡ contentCause (hourOf file) (spareOf file)
-order c = ap₂ (λ (h : Header) (p : Places). readCause h p (start c .args .file .now)) (c .before .read-header .ensures) (here c .same) ∙ content-is (start c .args .file .now)
+order : (c : tie.After-edition-of) → let file = start c .args .file .now in readCause (head c) (laid c) file ≡ contentCause (hourOf file) (spareOf file)
+order c = ap₂ (λ (h : Header) (p : Places). readCause h p (start c .args .file .now)) (c .before .before .read-header .ensures) (here c .same) ∙ content-is (start c .args .file .now)
 
 read-header-requires : tie.Need-read-header-requires
 read-header-requires c κs = whole _ (c .before .pre) .begun
 
 places-of-requires : tie.Need-places-of-requires
 places-of-requires c κs = small-read _ _ (c .read-header .ensures)
+
+edition-of-requires : tie.Need-edition-of-requires
+edition-of-requires c κs = search needs
 
 sub-prices-cause : tie.Need-sub-prices-cause
 sub-prices-cause c = let f = here c in omega arith
@@ -89,7 +103,7 @@ part-first-cause-end-2 c = let f = here (c .before .before .before .before .befo
 first-cause-requires-2 : tie.Need-first-cause-requires-2
 first-cause-requires-2 c κs = let p = c .before .before .before .before .before .before in
     let f = here p in
-    ((omega arith, omega (arith, counts p .transactions)), some p)
+    ((omega (arith, ap (λ (e : Edition). transactionSize e * head p .transactions) (p .edition-of .ensures)), omega (arith, counts p .transactions)), some p)
 
 first-of-requires : tie.Need-first-of-requires
 first-of-requires c κs = search needs
@@ -101,7 +115,10 @@ returns : tie.Need-returns
 returns c = let t = c .before .before in
     let r = t .before .before in
     let q = r .before .before in
-    or-made _ _ _ _ _ (c .first-of2 .ensures) (q .prices-cause .ensures) (or-made _ _ _ _ _ (c .before .first-of .ensures) (r .first-cause .ensures) (t .first-cause2 .ensures)) ∙ order (q .before .before .before)
+    let p = q .before .before .before in
+    let h = head p in
+    let named = ap (λ (e : Edition). firstFrom (causeAt true e (h .participants) (h .locations) (bytesFrom (laid p .transactions) (laid p .end) (start p .args .file .now))) 0 (h .transactions)) (p .edition-of .ensures) in
+    or-made _ _ _ _ _ (c .first-of2 .ensures) (q .prices-cause .ensures) (or-made _ _ _ _ _ (c .before .first-of .ensures) (r .first-cause .ensures) (t .first-cause2 .ensures ∙ named)) ∙ order p
 
 pub content-cause-spec : {M : Type 1} → statement M
 content-cause-spec =
@@ -109,6 +126,7 @@ content-cause-spec =
     (tie.spec
     read-header-requires
     places-of-requires
+    edition-of-requires
     sub-prices-cause
     part-prices-cause-start
     part-prices-cause-end

@@ -1,24 +1,29 @@
 -- `exercise_cause::first_cause` meets its contract. Assumes nothing.
 use mathlib.Core.Path.{ap, sym, _∙_}
 use Prim.Native.Nat.{_-_, _≤_}
+use native.Mathlib.Omega.{arith}
 use borrow.Author.Needs.{needs}
 use Rattle.hour.specs.declared.Cause.{Cause}
 use Rattle.hour.proofs.Causes.{Left, left-start, left-next, left-first, left-none}
+use Rattle.exercise.specs.Inside.{itemSize}
+use Rattle.exercise.proofs.Runs.{in-turn}
 use Rattle.exercise_cause.specs.Inside.{causeAt}
 use Rattle.exercise_cause.proofs.first_cause.Statement.{statement}
 use Rattle.exercise_cause.proofs.first_cause.Tie as tie
 
 abbrev Inv-loop : tie.InvT-loop
-Inv-loop transactions participants locations stretch n i₀ i = (i ≤ n) × Left (causeAt transactions participants locations stretch) n i
+Inv-loop transactions edition participants locations stretch n i₀ i = (i ≤ n) × Left (causeAt transactions edition participants locations stretch) n i
 
 abbrev μ-loop : tie.MeasureT-loop
-μ-loop transactions participants locations stretch n i₀ i = n - i
+μ-loop transactions edition participants locations stretch n i₀ i = n - i
 
 loop-holds : tie.Need-loop-holds Inv-loop μ-loop
 loop-holds c = (search needs, left-start _ _)
 
 cause-at-requires : tie.Need-cause-at-requires Inv-loop μ-loop
-cause-at-requires c κs = search needs
+cause-at-requires c κs = let l = c .before in
+    let s = l .before .before in
+    ((omega (arith, s .pre .0 .0, in-turn (itemSize (s .args .transactions) (s .args .edition)) (l .loop .i) (s .args .n) (c .loop-test .taken)), search needs), s .pre .1)
 
 returns : tie.Need-returns Inv-loop μ-loop
 returns c = let t = c .before .before in

@@ -8,7 +8,7 @@ use borrow.Author.Needs.{sfits-of, needs}
 use borrow.Author.Tests.{le-leb, lt-leb}
 use Rattle.hour.specs.Cause.{cause, ofFile}
 use Rattle.exercise.specs.Cause.{headerCause, frameCause}
-use Rattle.exercise.specs.File.{headerSize}
+use Rattle.exercise.specs.Layout.{headerSize}
 use Rattle.exercise.specs.declared.Header.{Header}
 use Rattle.exercise.proofs.Whole.{small-read}
 use Rattle.exercise_cause.proofs.frame_cause.Statement.{statement}
@@ -20,7 +20,7 @@ from-word-requires c κs = search needs
 returns : tie.Need-returns
 unfolding frameCause
 returns c = let n = length (c .before .before .before .args .file .now) in
-    simp (lt-leb headerSize n (c .before .if1 .taken)) (ap (λ (z : ℤ). cause 9 ofFile 0 0 z (pos 83) (pos 18821)) (toZ-ofZ {w = w64} (sfits-of (c .from-word .ok)) ∙ c .from-word .ensures))
+    simp (lt-leb headerSize n (c .before .if1 .taken)) (ap (λ (z : ℤ). cause 9 ofFile 0 0 z (pos 83) (pos 19077)) (toZ-ofZ {w = w64} (sfits-of (c .from-word .ok)) ∙ c .from-word .ensures))
 
 read-header-requires : tie.Need-read-header-requires
 read-header-requires c κs = search needs

@@ -60,7 +60,7 @@ returns c = let t4 = c .before .before .before in
     let t1 = t2 .before .before in
     let w1 = t1 .before in
     let k = w1 .before in
-    or-made _ _ _ _ _ (c .first-of3 .ensures) (t1 .tested .ensures ∙ ap (λ (z : ℤ). tested 9 ofHeader 0 4 z (pos 0) (pos 0)) (toZ-ofZ {w = w64} (sfits-of (w1 .from-word .ok)) ∙ w1 .from-word .ensures))
+    or-made _ _ _ _ _ (c .first-of3 .ensures) (t1 .tested .ensures ∙ ap (λ (z : ℤ). tested 9 ofHeader 0 4 z (pos 0) (pos 1)) (toZ-ofZ {w = w64} (sfits-of (w1 .from-word .ok)) ∙ w1 .from-word .ensures))
     (or-made _ _ _ _ _ (c .before .first-of2 .ensures) (t2 .tested2 .ensures ∙ ap (λ (z : ℤ). tested 1 ofHeader 0 2 z (pos 0) (pos 2048)) (toZ-ofZ {w = w64} (sfits-of (t2 .before .from-word2 .ok)) ∙ t2 .before .from-word2 .ensures))
     (or-made _ _ _ _ _ (c .before .before .first-of .ensures) (t3 .tested3 .ensures ∙ ap (λ (z : ℤ). tested 1 ofHeader 0 3 z (pos 0) (pos 256)) (toZ-ofZ {w = w64} (sfits-of (t3 .before .from-word3 .ok)) ∙ t3 .before .from-word3 .ensures))
     (t4 .tested4 .ensures ∙ ap₂ (λ (z e : ℤ). tested 9 ofFile 0 0 z e e) (toZ-ofZ {w = w64} (sfits-of (t4 .before .from-word4 .ok)) ∙ t4 .before .from-word4 .ensures) (toZ-ofZ {w = w64} (cast-end k) ∙ ap (λ (p : Places). pos (p .end)) (k .before .places-of .ensures)))))

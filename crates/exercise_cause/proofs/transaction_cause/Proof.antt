@@ -1,5 +1,5 @@
 -- `exercise_cause::transaction_cause` meets its contract. Assumes nothing.
-use mathlib.Core.Path.{ap, _∙_}
+use mathlib.Core.Path.{ap₂, _∙_}
 use borrow.Author.Needs.{needs}
 use Rattle.hour.specs.Cause.{transactionCause}
 use Rattle.exercise_cause.proofs.transaction_cause.Statement.{statement}
@@ -29,13 +29,19 @@ cast-transaction-cause-6 c = search needs
 cast-transaction-cause-7 : tie.Need-cast-transaction-cause-7
 cast-transaction-cause-7 c = search needs
 
+cast-transaction-cause-8 : tie.Need-cast-transaction-cause-8
+cast-transaction-cause-8 c = search needs
+
+transaction-spare-requires : tie.Need-transaction-spare-requires
+transaction-spare-requires c κs = search needs
+
 transaction-cause-requires : tie.Need-transaction-cause-requires
 transaction-cause-requires c κs = search needs
 
 returns : tie.Need-returns
-returns c = let r = c .before .before .before .before .before .before .before in
+returns c = let r = c .before .before .before .before .before .before .before .before .before in
     let a = r .before .before .args in
-    c .transaction-cause .ensures ∙ ap (transactionCause (a .participants) (a .locations) (a .i)) (r .read-transaction .ensures)
+    c .transaction-cause .ensures ∙ ap₂ (transactionCause (a .participants) (a .locations) (a .i)) (r .read-transaction .ensures) (c .before .transaction-spare .ensures)
 
 pub transaction-cause-spec : {M : Type 1} → statement M
 transaction-cause-spec =
@@ -49,5 +55,7 @@ transaction-cause-spec =
     cast-transaction-cause-5
     cast-transaction-cause-6
     cast-transaction-cause-7
+    cast-transaction-cause-8
+    transaction-spare-requires
     transaction-cause-requires
     returns)

@@ -1,8 +1,9 @@
 -- `exercise_file::content_refusal` meets its contract. Assumes nothing.
-use mathlib.Core.Path.{_≡_, ap₂, _∙_}
+use mathlib.Core.Path.{_≡_, ap, ap₂, _∙_}
 use mathlib.Core.List.{List}
-use Prim.Native.Nat.{ℕ}
+use Prim.Native.Nat.{ℕ, _*_}
 use native.Mathlib.Omega.{arith}
+use borrow.Author.Needs.{needs}
 use Rattle.ints.proofs.Turns.{then-ends, then-follows}
 use Rattle.exercise.specs.Order.{spareOf}
 use Rattle.exercise.specs.File.{bytesFrom, hourOf}
@@ -12,7 +13,9 @@ use Rattle.exercise.proofs.Content.{content-is}
 use Rattle.exercise.proofs.Whole.{Found, found, whole, small-read}
 use Rattle.exercise_file.proofs.content_refusal.Statement.{statement}
 use Rattle.exercise_file.proofs.content_refusal.Tie as tie
-use Rattle.exercise.specs.Inside.{stretchesRefusal}
+use Rattle.exercise.specs.Inside.{transactionsInRefusal, stretchesRefusal}
+use Rattle.exercise.specs.Layout.{transactionSize}
+use Rattle.hour.specs.declared.Edition.{Edition}
 use Rattle.hour.specs.Order.{contentRefusal}
 
 -- the order over a header and places that were read
@@ -70,25 +73,36 @@ returns-2 c = let b = c .before .before .before in
     ∙ then-follows _ _ _ (b .if1 .left) (b .before .prices-refusal .ensures)
     ∙ order (b .before .before .before .before)
 
+edition-of-requires : tie.Need-edition-of-requires
+edition-of-requires c κs = search needs
+
 sub-transactions-refusal : tie.Need-sub-transactions-refusal
-sub-transactions-refusal c = let f = here (c .before .before .before .before .before .before .before) in omega arith
+sub-transactions-refusal c = let f = here (c .before .before .before .before .before .before .before .before) in omega arith
 
 part-transactions-refusal-start : tie.Need-part-transactions-refusal-start
-part-transactions-refusal-start c = let f = here (c .before .before .before .before .before .before .before) in omega arith
+part-transactions-refusal-start c = let f = here (c .before .before .before .before .before .before .before .before) in omega arith
 
 part-transactions-refusal-end : tie.Need-part-transactions-refusal-end
-part-transactions-refusal-end c = let f = here (c .before .before .before .before .before .before .before) in omega arith
+part-transactions-refusal-end c = let f = here (c .before .before .before .before .before .before .before .before) in omega arith
 
 transactions-refusal-requires : tie.Need-transactions-refusal-requires
-transactions-refusal-requires c κs = let f = here (c .before .before .before .before .before .before .before .before) in omega arith
+transactions-refusal-requires c κs = let g = c .before in
+    let b = g .before .before .before .before .before .before .before .before in
+    let f = here b in
+    omega (arith, ap (λ (e : Edition). transactionSize e * b .before .read-header .result .transactions) (g .edition-of .ensures))
 
 returns-3 : tie.Need-returns-3
-returns-3 c = let d = c .before .before in
+returns-3 c = let g = c .before .before in
+    let d = g .before in
     let b = d .before .before .before in
+    let p = b .before .before .before .before in
+    let h = p .before .read-header .result in
+    let at = p .places-of .result in
     c .transactions-refusal .ensures
+    ∙ ap (λ (e : Edition). transactionsInRefusal e (h .participants) (h .locations) (bytesFrom (at .transactions) (at .end) (start p .args .file .now)) (h .transactions)) (g .edition-of .ensures)
     ∙ then-follows _ _ _ (d .if2 .left) (d .before .rows-refusal .ensures)
     ∙ then-follows _ _ _ (b .if1 .left) (b .before .prices-refusal .ensures)
-    ∙ order (b .before .before .before .before)
+    ∙ order p
 
 pub content-refusal-spec : {M : Type 1} → statement M
 content-refusal-spec =
@@ -107,6 +121,7 @@ content-refusal-spec =
     part-rows-refusal-end
     rows-refusal-requires
     returns-2
+    edition-of-requires
     sub-transactions-refusal
     part-transactions-refusal-start
     part-transactions-refusal-end

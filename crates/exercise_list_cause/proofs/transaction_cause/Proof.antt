@@ -1,99 +1,45 @@
 -- `exercise_list_cause::transaction_cause` meets its contract. Assumes nothing.
-use mathlib.Core.Path.{ap, _∙_}
+use mathlib.Core.Path.{_≡_, sym, ap, _∙_, subst}
+use Prim.Native.Nat.{ℕ, _+_, _*_, _≤_}
+use native.Mathlib.Omega.{arith}
 use borrow.Author.Needs.{needs}
 use Rattle.hour.specs.Cause.{transactionCause}
-use Rattle.exercise.proofs.Packing.{transaction-same}
+use Rattle.hour.specs.declared.Edition.{Edition}
+use Rattle.exercise.specs.Lists.{transactionLength, transactionGiven}
 use Rattle.exercise_list_cause.proofs.transaction_cause.Statement.{statement}
 use Rattle.exercise_list_cause.proofs.transaction_cause.Tie as tie
 
-cast-transaction-cause : tie.Need-cast-transaction-cause
-cast-transaction-cause c = search needs
+-- what is there of a transaction, once its edition is known
+there : (e f : Edition) → e ≡ f → (i bytes : ℕ) → 8 * (transactionLength e * i + transactionLength e) ≤ bytes → 8 * (transactionLength f * i + transactionLength f) ≤ bytes
+there e f q i bytes l = subst (λ (x : Edition). 8 * (transactionLength x * i + transactionLength x) ≤ bytes) q l
 
-mul-word-at : tie.Need-mul-word-at
-mul-word-at c = search needs
+enum-told : tie.Need-enum-told
+enum-told c = search needs
 
-word-at-requires : tie.Need-word-at-requires
-word-at-requires c κs = search needs
+path-cause-requires : tie.Need-path-cause-requires
+path-cause-requires c κs = let s = c .before .before .before in
+    let l = there (s .args .edition) _ (c .enum-told .given .1) (s .args .i) _ (s .pre .0 .0) in
+    ((omega (arith, l), s .pre .0 .1), s .pre .1)
 
-mul-word-at-2 : tie.Need-mul-word-at-2
-mul-word-at-2 c = search needs
+enum-told-2 : tie.Need-enum-told-2
+enum-told-2 c = search needs
 
-add-word-at : tie.Need-add-word-at
-add-word-at c = search needs
-
-word-at-requires-2 : tie.Need-word-at-requires-2
-word-at-requires-2 c κs = search needs
-
-mul-word-at-3 : tie.Need-mul-word-at-3
-mul-word-at-3 c = search needs
-
-add-word-at-2 : tie.Need-add-word-at-2
-add-word-at-2 c = search needs
-
-word-at-requires-3 : tie.Need-word-at-requires-3
-word-at-requires-3 c κs = search needs
-
-mul-word-at-4 : tie.Need-mul-word-at-4
-mul-word-at-4 c = search needs
-
-add-word-at-3 : tie.Need-add-word-at-3
-add-word-at-3 c = search needs
-
-word-at-requires-4 : tie.Need-word-at-requires-4
-word-at-requires-4 c κs = search needs
-
-mul-word-at-5 : tie.Need-mul-word-at-5
-mul-word-at-5 c = search needs
-
-add-word-at-4 : tie.Need-add-word-at-4
-add-word-at-4 c = search needs
-
-word-at-requires-5 : tie.Need-word-at-requires-5
-word-at-requires-5 c κs = search needs
-
-mul-word-at-6 : tie.Need-mul-word-at-6
-mul-word-at-6 c = search needs
-
-add-word-at-5 : tie.Need-add-word-at-5
-add-word-at-5 c = search needs
-
-word-at-requires-6 : tie.Need-word-at-requires-6
-word-at-requires-6 c κs = search needs
-
-transaction-cause-requires : tie.Need-transaction-cause-requires
-transaction-cause-requires c κs = search needs
+sale-cause-requires : tie.Need-sale-cause-requires
+sale-cause-requires c κs = let s = c .before .before .before in
+    let l = there (s .args .edition) _ (c .enum-told2 .given .1) (s .args .i) _ (s .pre .0 .0) in
+    ((omega (arith, l), s .pre .0 .1), s .pre .1)
 
 returns : tie.Need-returns
-returns c = let w5 = c .before in
-    let w4 = w5 .before in
-    let w3 = w4 .before in
-    let w2 = w3 .before in
-    let w1 = w2 .before in
-    let w0 = w1 .before in
-    let a = w0 .before .before .args in
-    c .transaction-cause .ensures ∙ ap (transactionCause (a .participants) (a .locations) (a .i)) (transaction-same (w0 .word-at .ensures) (w1 .word-at2 .ensures) (w2 .word-at3 .ensures) (w3 .word-at4 .ensures) (w4 .word-at5 .ensures) (w5 .word-at6 .ensures))
+returns c = let s = c .before .before .before .before in
+    let a = s .args in
+    c .path-cause .ensures ∙ sym (ap (λ (x : Edition). transactionCause (a .participants) (a .locations) (a .i) (transactionGiven x (a .list .now) (a .i)) 0) (c .before .enum-told .given .1))
+
+returns-2 : tie.Need-returns-2
+returns-2 c = let s = c .before .before .before .before in
+    let a = s .args in
+    c .sale-cause .ensures ∙ sym (ap (λ (x : Edition). transactionCause (a .participants) (a .locations) (a .i) (transactionGiven x (a .list .now) (a .i)) 0) (c .before .enum-told2 .given .1))
 
 pub transaction-cause-spec : {M : Type 1} → statement M
 transaction-cause-spec =
     tie.close
-    (tie.spec
-    cast-transaction-cause
-    mul-word-at
-    word-at-requires
-    mul-word-at-2
-    add-word-at
-    word-at-requires-2
-    mul-word-at-3
-    add-word-at-2
-    word-at-requires-3
-    mul-word-at-4
-    add-word-at-3
-    word-at-requires-4
-    mul-word-at-5
-    add-word-at-4
-    word-at-requires-5
-    mul-word-at-6
-    add-word-at-5
-    word-at-requires-6
-    transaction-cause-requires
-    returns)
+    (tie.spec enum-told path-cause-requires enum-told-2 sale-cause-requires returns returns-2)

@@ -5,21 +5,26 @@ use native.Mathlib.Omega.{arith}
 use borrow.Author.Needs.{needs}
 use Rattle.ints.specs.Turn.{inTurn}
 use Rattle.ints.proofs.Turns.{turn-start, turn-next, turn-first}
+use Rattle.exercise.specs.Inside.{itemLength}
+use Rattle.exercise.proofs.Runs.{in-turn}
 use Rattle.exercise_lists.specs.Inside.{refusalGiven}
 use Rattle.exercise_lists.proofs.refusal_in_turn.Statement.{statement}
 use Rattle.exercise_lists.proofs.refusal_in_turn.Tie as tie
 
 abbrev Inv-loop : tie.InvT-loop
-Inv-loop transactions participants locations list n i₀ i = (i ≤ n) × (inTurn (refusalGiven transactions participants locations list) i ≡ 0)
+Inv-loop transactions edition participants locations list n i₀ i = (i ≤ n) × (inTurn (refusalGiven transactions edition participants locations list) i ≡ 0)
 
 abbrev μ-loop : tie.MeasureT-loop
-μ-loop transactions participants locations list n i₀ i = n - i
+μ-loop transactions edition participants locations list n i₀ i = n - i
 
 loop-holds : tie.Need-loop-holds Inv-loop μ-loop
 loop-holds c = (search needs, turn-start _)
 
 refusal-at-requires : tie.Need-refusal-at-requires Inv-loop μ-loop
-refusal-at-requires c κs = search needs
+refusal-at-requires c κs = let l = c .before in
+    let s = l .before .before in
+    let a = s .args in
+    omega (arith, s .pre, in-turn (itemLength (a .transactions) (a .edition)) (l .loop .i) (a .n) (c .loop-test .taken))
 
 returns : tie.Need-returns Inv-loop μ-loop
 returns c = let r = c .before in
@@ -40,7 +45,7 @@ loop-again c = let r = c .before in
 returns-2 : tie.Need-returns-2 Inv-loop μ-loop
 returns-2 c = let l = c .before in
     let a = l .before .before .args in
-    sym (ap (inTurn (refusalGiven (a .transactions) (a .participants) (a .locations) (a .list .now))) (omega arith) ∙ l .loop .inv .1)
+    sym (ap (inTurn (refusalGiven (a .transactions) (a .edition) (a .participants) (a .locations) (a .list .now))) (omega arith) ∙ l .loop .inv .1)
 
 pub refusal-in-turn-spec : {M : Type 1} → statement M
 refusal-in-turn-spec =

@@ -1,94 +1,38 @@
 -- `exercise_lists::transaction_refusal` meets its contract. Assumes nothing.
-use mathlib.Core.Path.{ap, _∙_}
+use mathlib.Core.Path.{sym, ap, _∙_, subst}
+use Prim.Native.Nat.{_+_, _*_, _≤_}
+use native.Mathlib.Omega.{arith}
+use lib.ListN.{length}
 use borrow.Author.Needs.{needs}
 use Rattle.hour.specs.Order.{transactionRefusal}
-use Rattle.exercise.proofs.Packing.{transaction-same}
+use Rattle.hour.specs.declared.Edition.{Edition}
+use Rattle.exercise.specs.Lists.{transactionLength, transactionGiven}
 use Rattle.exercise_lists.proofs.transaction_refusal.Statement.{statement}
 use Rattle.exercise_lists.proofs.transaction_refusal.Tie as tie
 
-mul-word-at : tie.Need-mul-word-at
-mul-word-at c = search needs
+enum-told : tie.Need-enum-told
+enum-told c = search needs
 
-word-at-requires : tie.Need-word-at-requires
-word-at-requires c κs = search needs
+path-refusal-requires : tie.Need-path-refusal-requires
+path-refusal-requires c κs = let s = c .before .before .before in
+    omega (arith, subst (λ (e : Edition). 8 * (transactionLength e * s .args .i + transactionLength e) ≤ length (s .args .list .now)) (c .enum-told .given .1) (s .pre))
 
-mul-word-at-2 : tie.Need-mul-word-at-2
-mul-word-at-2 c = search needs
+enum-told-2 : tie.Need-enum-told-2
+enum-told-2 c = search needs
 
-add-word-at : tie.Need-add-word-at
-add-word-at c = search needs
-
-word-at-requires-2 : tie.Need-word-at-requires-2
-word-at-requires-2 c κs = search needs
-
-mul-word-at-3 : tie.Need-mul-word-at-3
-mul-word-at-3 c = search needs
-
-add-word-at-2 : tie.Need-add-word-at-2
-add-word-at-2 c = search needs
-
-word-at-requires-3 : tie.Need-word-at-requires-3
-word-at-requires-3 c κs = search needs
-
-mul-word-at-4 : tie.Need-mul-word-at-4
-mul-word-at-4 c = search needs
-
-add-word-at-3 : tie.Need-add-word-at-3
-add-word-at-3 c = search needs
-
-word-at-requires-4 : tie.Need-word-at-requires-4
-word-at-requires-4 c κs = search needs
-
-mul-word-at-5 : tie.Need-mul-word-at-5
-mul-word-at-5 c = search needs
-
-add-word-at-4 : tie.Need-add-word-at-4
-add-word-at-4 c = search needs
-
-word-at-requires-5 : tie.Need-word-at-requires-5
-word-at-requires-5 c κs = search needs
-
-mul-word-at-6 : tie.Need-mul-word-at-6
-mul-word-at-6 c = search needs
-
-add-word-at-5 : tie.Need-add-word-at-5
-add-word-at-5 c = search needs
-
-word-at-requires-6 : tie.Need-word-at-requires-6
-word-at-requires-6 c κs = search needs
-
-transaction-numbers-refusal-requires : tie.Need-transaction-numbers-refusal-requires
-transaction-numbers-refusal-requires c κs = search needs
+sale-refusal-requires : tie.Need-sale-refusal-requires
+sale-refusal-requires c κs = let s = c .before .before .before in
+    omega (arith, subst (λ (e : Edition). 8 * (transactionLength e * s .args .i + transactionLength e) ≤ length (s .args .list .now)) (c .enum-told2 .given .1) (s .pre))
 
 returns : tie.Need-returns
-returns c = let w5 = c .before in
-    let w4 = w5 .before in
-    let w3 = w4 .before in
-    let w2 = w3 .before in
-    let w1 = w2 .before in
-    let w0 = w1 .before in
-    c .transaction-numbers-refusal .ensures ∙ ap (transactionRefusal _ _) (transaction-same (w0 .word-at .ensures) (w1 .word-at2 .ensures) (w2 .word-at3 .ensures) (w3 .word-at4 .ensures) (w4 .word-at5 .ensures) (w5 .word-at6 .ensures))
+returns c = let a = c .before .before .before .before .args in
+    c .path-refusal .ensures ∙ sym (ap (λ (e : Edition). transactionRefusal (a .participants) (a .locations) (transactionGiven e (a .list .now) (a .i))) (c .before .enum-told .given .1))
+
+returns-2 : tie.Need-returns-2
+returns-2 c = let a = c .before .before .before .before .args in
+    c .sale-refusal .ensures ∙ sym (ap (λ (e : Edition). transactionRefusal (a .participants) (a .locations) (transactionGiven e (a .list .now) (a .i))) (c .before .enum-told2 .given .1))
 
 pub transaction-refusal-spec : {M : Type 1} → statement M
 transaction-refusal-spec =
     tie.close
-    (tie.spec
-    mul-word-at
-    word-at-requires
-    mul-word-at-2
-    add-word-at
-    word-at-requires-2
-    mul-word-at-3
-    add-word-at-2
-    word-at-requires-3
-    mul-word-at-4
-    add-word-at-3
-    word-at-requires-4
-    mul-word-at-5
-    add-word-at-4
-    word-at-requires-5
-    mul-word-at-6
-    add-word-at-5
-    word-at-requires-6
-    transaction-numbers-refusal-requires
-    returns)
+    (tie.spec enum-told path-refusal-requires enum-told-2 sale-refusal-requires returns returns-2)

@@ -1,10 +1,9 @@
 -- `exercise_read::put_counts` meets its contract. Assumes nothing.
-use mathlib.Core.Path.{refl, ap, _∙_}
+use mathlib.Core.Path.{ap, _∙_}
 use native.Mathlib.Omega.{arith}
-use mir.Facts.{toZ-pos}
-use mir.Syntax.{w64}
 use borrow.Author.Needs.{needs}
 use Rattle.numbers.specs.Bytes.{encoded}
+use Rattle.exercise_read.proofs.Fill.{five-signed}
 use Rattle.exercise_read.proofs.put_counts.Statement.{statement}
 use Rattle.exercise_read.proofs.put_counts.Tie as tie
 
@@ -20,6 +19,9 @@ cast-t6 c = search needs
 cast-t7 : tie.Need-cast-t7
 cast-t7 c = search needs
 
+cast-t8 : tie.Need-cast-t8
+cast-t8 c = search needs
+
 slice-aggregate-write-all : tie.Need-slice-aggregate-write-all
 slice-aggregate-write-all c = search needs
 
@@ -30,12 +32,8 @@ same-length : tie.Need-same-length
 same-length c = search needs
 
 returns : tie.Need-returns
-returns c = let s = c .before .before .before .before .before .before .before .before .before .before in
-    let h = s .args .header in
-    let k = s .pre .0 in
-    c .before .before .write-all .ensures
-    ∙ ap encoded
-    (simp (toZ-pos w64 {n = h .participants} (omega (arith, k .participants)), toZ-pos w64 {n = h .locations} (omega (arith, k .locations)), toZ-pos w64 {n = h .rows} (omega (arith, k .rows)), toZ-pos w64 {n = h .transactions} (omega (arith, k .transactions))) refl)
+returns c =
+    c .before .before .write-all .ensures ∙ ap encoded (five-signed _ _ _ _ _ (omega arith) (omega arith) (omega arith) (omega arith) (omega arith))
 
 pub put-counts-spec : {M : Type 1} → statement M
 put-counts-spec =
@@ -45,6 +43,7 @@ put-counts-spec =
     cast-t5
     cast-t6
     cast-t7
+    cast-t8
     slice-aggregate-write-all
     write-all-requires
     same-length

@@ -1,11 +1,16 @@
 -- `exercise_read::put_lists` meets its contract. Assumes nothing.
 use mathlib.Core.Path.{_≡_, ap, _∙_}
+use Prim.Native.Nat.{_*_}
 use native.Mathlib.Omega.{arith}
 use borrow.Author.Needs.{needs}
 use Rattle.exercise_read.proofs.Answers.{prices-are, rows-are, transactions-are}
 use Rattle.exercise.proofs.Whole.{Found, found, whole, small-read}
 use Rattle.exercise.specs.declared.Header.{Header}
 use Rattle.exercise.specs.File.{header}
+use Rattle.exercise.specs.Layout.{transactionSize, editionOf}
+use Rattle.exercise.specs.Lists.{transactionLength}
+use Rattle.hour.specs.declared.Edition.{Edition}
+use Rattle.hour.specs.declared.Edition.the-variants as Edition
 use Rattle.exercise_read.proofs.put_lists.Statement.{statement}
 use Rattle.exercise_read.proofs.put_lists.Tie as tie
 
@@ -73,23 +78,29 @@ put-all-requires c κs = let b = priced (c .before .before .before .before) in
     let k = counts b in
     (omega arith, omega (arith, start b .pre .rows-long))
 
+edition-of-requires : tie.Need-edition-of-requires
+edition-of-requires c κs = search needs
+
 sub-put-all-2 : tie.Need-sub-put-all-2
-sub-put-all-2 c = let f = here (priced (rowed (c .before .before))) in
+sub-put-all-2 c = let f = here (priced (rowed (c .before .before .before))) in
     omega arith
 
 part-put-all-start-2 : tie.Need-part-put-all-start-2
-part-put-all-start-2 c = let f = here (priced (rowed (c .before .before))) in
+part-put-all-start-2 c = let f = here (priced (rowed (c .before .before .before))) in
     omega arith
 
 part-put-all-end-2 : tie.Need-part-put-all-end-2
-part-put-all-end-2 c = let f = here (priced (rowed (c .before .before))) in
+part-put-all-end-2 c = let f = here (priced (rowed (c .before .before .before))) in
     omega arith
 
 put-all-requires-2 : tie.Need-put-all-requires-2
-put-all-requires-2 c κs = let b = priced (rowed (c .before .before .before .before)) in
-    let f = here b in
-    let k = counts b in
-    (omega arith, omega (arith, start b .pre .transactions-long))
+put-all-requires-2 c κs = let g = c .before .before in
+    let b = priced (rowed (g .before .before .before)) in
+    let h = b .before .read-header .result in
+    let f = here b in (
+      omega (arith, ap (λ (e : Edition). transactionSize e * h .transactions) (g .edition-of .ensures)),
+      omega (arith, start b .pre .transactions-long, ap (λ (e : Edition). transactionLength e * h .transactions) (g .edition-of .ensures), ap (λ (k : Header). transactionLength (editionOf (k .edition)) * k .transactions) (b .before .read-header .ensures)),
+    )
 
 same-length : tie.Need-same-length
 same-length c = search needs
@@ -102,13 +113,14 @@ same-length-3 c = search needs
 
 returns : tie.Need-returns
 returns c = let t = c .before .before in
-    let r = t .before .before .before .before .before in
+    let g = t .before .before .before in
+    let r = g .before .before .before in
     let p = rowed r in
     let b = priced p in
     let file = start b .args .file .now in
     let e = b .before .read-header .ensures in
     let s = here b .same in
-    (p .put-prices .ensures ∙ prices-are file _ _ e s, (r .put-all .ensures ∙ rows-are file _ _ e s, t .put-all2 .ensures ∙ transactions-are file _ _ e s))
+    (p .put-prices .ensures ∙ prices-are file _ _ e s, (r .put-all .ensures ∙ rows-are file _ _ e s Edition.PathOnly, t .put-all2 .ensures ∙ transactions-are file _ _ e s _ (g .edition-of .ensures)))
 
 pub put-lists-spec : {M : Type 1} → statement M
 put-lists-spec =
@@ -125,6 +137,7 @@ put-lists-spec =
     part-put-all-start
     part-put-all-end
     put-all-requires
+    edition-of-requires
     sub-put-all-2
     part-put-all-start-2
     part-put-all-end-2

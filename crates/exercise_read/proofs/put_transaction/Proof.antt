@@ -1,54 +1,50 @@
 -- `exercise_read::put_transaction` meets its contract. Assumes nothing.
-use mathlib.Core.Path.{ap, _∙_}
-use native.Mathlib.Omega.{arith}
+use mathlib.Core.Path.{sym, ap, _∙_}
+use Prim.Native.Nat.{_*_}
 use borrow.Author.Needs.{needs}
 use Rattle.numbers.specs.Bytes.{encoded}
-use Rattle.exercise_read.proofs.Fill.{six-signed}
+use Rattle.hour.specs.declared.Edition.{Edition}
+use Rattle.exercise.specs.Lists.{transactionLength, transactionNumbers}
 use Rattle.exercise_read.proofs.put_transaction.Statement.{statement}
 use Rattle.exercise_read.proofs.put_transaction.Tie as tie
 
-cast-t4 : tie.Need-cast-t4
-cast-t4 c = search needs
+enum-told : tie.Need-enum-told
+enum-told c = search needs
 
-cast-t5 : tie.Need-cast-t5
-cast-t5 c = search needs
+put-path-requires : tie.Need-put-path-requires
+put-path-requires c κs = let t = c .before in t .before .before .before .pre ∙ ap (λ (e : Edition). 8 * transactionLength e) (t .enum-told .given .1)
 
-cast-t6 : tie.Need-cast-t6
-cast-t6 c = search needs
+enum-told-2 : tie.Need-enum-told-2
+enum-told-2 c = search needs
 
-cast-t7 : tie.Need-cast-t7
-cast-t7 c = search needs
-
-cast-t8 : tie.Need-cast-t8
-cast-t8 c = search needs
-
-cast-t9 : tie.Need-cast-t9
-cast-t9 c = search needs
-
-slice-aggregate-write-all : tie.Need-slice-aggregate-write-all
-slice-aggregate-write-all c = search needs
-
-write-all-requires : tie.Need-write-all-requires
-write-all-requires c κs = search needs
+put-sale-requires : tie.Need-put-sale-requires
+put-sale-requires c κs = let t = c .before in t .before .before .before .pre ∙ ap (λ (e : Edition). 8 * transactionLength e) (t .enum-told2 .given .1)
 
 same-length : tie.Need-same-length
 same-length c = search needs
 
 returns : tie.Need-returns
-returns c = let k = c .before .before .before .before .before .struct-known6 .given in
-    c .before .before .write-all .ensures ∙ ap encoded (six-signed _ _ _ _ _ _ (omega (arith, k .0)) (omega (arith, k .1 .0)) (omega (arith, k .1 .1 .0)) (omega (arith, k .1 .1 .1 .0)) (omega (arith, k .1 .1 .1 .1 .0)) (omega (arith, k .1 .1 .1 .1 .1 .0)))
+returns c = let t = c .before .before .before .before in
+    let a = t .before .before .before .args in
+    c .before .before .put-path .ensures ∙ sym (ap (λ (e : Edition). encoded (transactionNumbers e (a .transaction))) (t .enum-told .given .1))
+
+same-length-2 : tie.Need-same-length-2
+same-length-2 c = search needs
+
+returns-2 : tie.Need-returns-2
+returns-2 c = let t = c .before .before .before .before in
+    let a = t .before .before .before .args in
+    c .before .before .put-sale .ensures ∙ sym (ap (λ (e : Edition). encoded (transactionNumbers e (a .transaction))) (t .enum-told2 .given .1))
 
 pub put-transaction-spec : {M : Type 1} → statement M
 put-transaction-spec =
     tie.close
     (tie.spec
-    cast-t4
-    cast-t5
-    cast-t6
-    cast-t7
-    cast-t8
-    cast-t9
-    slice-aggregate-write-all
-    write-all-requires
+    enum-told
+    put-path-requires
+    enum-told-2
+    put-sale-requires
     same-length
-    returns)
+    returns
+    same-length-2
+    returns-2)

@@ -1,7 +1,7 @@
 -- `exercise_read::read_counts` meets its contract. Assumes nothing.
-use mathlib.Core.Path.{refl, sym, ap, _∙_}
+use mathlib.Core.Path.{refl, sym, ap, subst, _∙_}
 use mathlib.Core.List.{List}
-use Prim.Native.Nat.{ℕ}
+use Prim.Native.Nat.{ℕ, _≤_}
 use lib.Dec.{eqb}
 use lib.ListN.{length}
 use borrow.Author.Needs.{needs}
@@ -40,13 +40,16 @@ returns-2 : tie.Need-returns-2
 unfolding fileCountsRefusal
 returns-2 c = let f = c .before .before in
     let s = start f in
-    refused (answer s) (result s) (s .args .counts .now) 0 (sym (simp (ne-eqb _ _ (c .if2 .taken)) refl) ∙ then-follows _ (unless (eqb (length (s .args .counts .now)) 32) 1 0) _ (c .before .if1 .left) (f .frame-refusal .ensures))
+    refused (answer s) (result s) (s .args .counts .now) 0 (sym (simp (ne-eqb _ _ (c .if2 .taken)) refl) ∙ then-follows _ (unless (eqb (length (s .args .counts .now)) 40) 1 0) _ (c .before .if1 .left) (f .frame-refusal .ensures))
 
 read-header-requires : tie.Need-read-header-requires
 read-header-requires c κs = let e = c .before in whole _ (sym (e .before .frame-refusal .ensures) ∙ e .if1 .left) .begun
 
 put-counts-requires : tie.Need-put-counts-requires
-put-counts-requires c κs = (small-read _ _ (c .before .read-header .ensures), c .before .before .if2 .left)
+put-counts-requires c κs = let h = c .before in
+    let e = h .before .before in
+    let w = whole _ (sym (e .before .frame-refusal .ensures) ∙ e .if1 .left) in
+    ((small-read _ _ (h .read-header .ensures), subst (λ (k : Header). k .edition ≤ 1) (sym (h .read-header .ensures)) (w .edition)), h .before .if2 .left)
 
 same-length : tie.Need-same-length
 same-length c = search needs
@@ -57,7 +60,7 @@ returns-3 c = let h = c .before .before .before .before in
     let e = h .before .before in
     let f = e .before in
     let s = start f in
-    done (answer s) (result s) (s .args .counts .now) _ (sym (simp (eq-eqb _ _ (h .before .if2 .left)) refl) ∙ then-follows _ (unless (eqb (length (s .args .counts .now)) 32) 1 0) _ (e .if1 .left) (f .frame-refusal .ensures)) (c .before .before .put-counts .ensures ∙ ap (λ (x : Header). encoded (countNumbers x)) (h .read-header .ensures))
+    done (answer s) (result s) (s .args .counts .now) _ (sym (simp (eq-eqb _ _ (h .before .if2 .left)) refl) ∙ then-follows _ (unless (eqb (length (s .args .counts .now)) 40) 1 0) _ (e .if1 .left) (f .frame-refusal .ensures)) (c .before .before .put-counts .ensures ∙ ap (λ (x : Header). encoded (countNumbers x)) (h .read-header .ensures))
 
 pub read-counts-spec : {M : Type 1} → statement M
 read-counts-spec =

@@ -21,31 +21,37 @@ returns c = let t = c .if1 .taken in
 read-header-requires : tie.Need-read-header-requires
 read-header-requires c κs = whole _ (sym (c .before .frame-refusal .ensures) ∙ c .if1 .left) .begun
 
+edition-of-requires : tie.Need-edition-of-requires
+edition-of-requires c κs = search needs
+
 lists-refusal-requires : tie.Need-lists-refusal-requires
-lists-refusal-requires c κs = let s = small-read _ _ (c .read-header .ensures) in
+lists-refusal-requires c κs = let s = small-read _ _ (c .before .read-header .ensures) in
     (s .locations, s .rows, s .transactions)
 
 returns-2 : tie.Need-returns-2
 returns-2 c = let l = c .before in
-    let h = l .before in
+    let g = l .before in
+    let h = g .before in
     let t = c .if2 .taken in
-    (ends-there _ _ _ _ (passes h) _ (h .read-header .ensures) _ t (l .lists-refusal .ensures), (lent-before _ _ _ t, (lent-before _ _ _ t, lent-before _ _ _ t)))
+    (ends-there _ _ _ _ (passes h) _ (h .read-header .ensures) _ (g .edition-of .ensures) _ t (l .lists-refusal .ensures), (lent-before _ _ _ t, (lent-before _ _ _ t, lent-before _ _ _ t)))
 
 content-refusal-requires : tie.Need-content-refusal-requires
-content-refusal-requires c κs = passes (c .before .before)
+content-refusal-requires c κs = passes (c .before .before .before)
 
 returns-3 : tie.Need-returns-3
 returns-3 c = let d = c .before .before in
     let l = d .before in
-    let h = l .before in
+    let g = l .before in
+    let h = g .before in
     let t = c .if3 .taken in
-    (c .before .content-refusal .ensures ∙ goes-on _ _ _ _ (passes h) _ (h .read-header .ensures) _ (d .if2 .left) (l .lists-refusal .ensures), (lent-before _ _ _ t, (lent-before _ _ _ t, lent-before _ _ _ t)))
+    (c .before .content-refusal .ensures ∙ goes-on _ _ _ _ (passes h) _ (h .read-header .ensures) _ (g .edition-of .ensures) _ (d .if2 .left) (l .lists-refusal .ensures), (lent-before _ _ _ t, (lent-before _ _ _ t, lent-before _ _ _ t)))
 
 put-lists-requires : tie.Need-put-lists-requires
 put-lists-requires c κs = let d = c .before .before .before .before .before in
     let l = d .before in
-    let h = l .before in
-    lists-long _ _ _ _ (passes h) _ (h .read-header .ensures) _ (d .if2 .left) (l .lists-refusal .ensures)
+    let g = l .before in
+    let h = g .before in
+    lists-long _ _ _ _ (passes h) _ (h .read-header .ensures) _ (g .edition-of .ensures) _ (d .if2 .left) (l .lists-refusal .ensures)
 
 same-length : tie.Need-same-length
 same-length c = search needs
@@ -61,8 +67,9 @@ returns-4 c = let w = c .before .before .before .before .before .before in
     let b = w .before .before .before .before in
     let d = b .before .before in
     let l = d .before in
-    let h = l .before in
-    (sym (b .if3 .left) ∙ b .before .content-refusal .ensures ∙ goes-on _ _ _ _ (passes h) _ (h .read-header .ensures) _ (d .if2 .left) (l .lists-refusal .ensures), w .put-lists .ensures)
+    let g = l .before in
+    let h = g .before in
+    (sym (b .if3 .left) ∙ b .before .content-refusal .ensures ∙ goes-on _ _ _ _ (passes h) _ (h .read-header .ensures) _ (g .edition-of .ensures) _ (d .if2 .left) (l .lists-refusal .ensures), w .put-lists .ensures)
 
 pub read-file-spec : {M : Type 1} → statement M
 read-file-spec =
@@ -71,6 +78,7 @@ read-file-spec =
     frame-refusal-requires
     returns
     read-header-requires
+    edition-of-requires
     lists-refusal-requires
     returns-2
     content-refusal-requires

@@ -15,7 +15,7 @@ row-of-requires : tie.Need-row-of-requires
 row-of-requires c κs = search needs
 
 returns : tie.Need-returns
-returns c = c .row-of .ensures ∙ ap rowOf (c .before .six-at .ensures)
+returns c = c .row-of .ensures ∙ ap rowOf (c .before .six-at .ensures .0)
 
 pub read-row-spec : {M : Type 1} → statement M
 read-row-spec = tie.close (tie.spec mul-six-at six-at-requires row-of-requires returns)

@@ -15,12 +15,12 @@ abbrev start : tie.After-packed-row-refusal → tie.Start
 start c = c .before .before .before .before
 
 row : (c : tie.After-packed-row-refusal) → c .before .row-of .result ≡ rowAt (start c .args .rows .now) (start c .args .i)
-row c = c .before .row-of .ensures ∙ ap rowOf (c .before .before .six-at .ensures)
+row c = c .before .row-of .ensures ∙ ap rowOf (c .before .before .six-at .ensures .0)
 
 refusal : (c : tie.After-packed-row-refusal) → c .packed-row-refusal .result ≡ rowRefusalAt (start c .args .participants) (start c .args .locations) (start c .args .rows .now) (start c .args .i)
 refusal c =
     let a = start c .args in
-    c .packed-row-refusal .ensures ∙ ap₂ (λ (r : Row) (v : ℕ). packedRowRefusal (a .participants) (a .locations) r (rowSpare v)) (row c) (c .before .before .six-at .ensures)
+    c .packed-row-refusal .ensures ∙ ap₂ (λ (r : Row) (v : ℕ). packedRowRefusal (a .participants) (a .locations) r (rowSpare v)) (row c) (c .before .before .six-at .ensures .0)
 
 mul-six-at : tie.Need-mul-six-at
 mul-six-at c = search needs

@@ -1,16 +1,21 @@
 -- `exercise_write::put_file` meets its contract. Assumes nothing.
-use mathlib.Core.Path.{refl, ap, _∙_}
+use mathlib.Core.Path.{refl, sym, ap, ap₂, _∙_, subst}
 use mathlib.Core.Bool.{true, false}
 use mathlib.Core.List.{List}
-use Prim.Native.Nat.{ℕ, _+_, _*_}
+use Prim.Native.Nat.{ℕ, _+_, _*_, _≤_}
 use native.Mathlib.Omega.{arith}
+use lib.ListN.{length}
 use lib.Seq.{sets}
 use borrow.Author.Needs.{needs}
 use Rattle.ints.specs.Table.{tab}
 use Rattle.numbers.specs.Bytes.{numberAt}
-use Rattle.exercise_write.proofs.Ready.{prices-fit, rows-fit, transactions-fit, put-stores}
-use Rattle.exercise_write.specs.Inside.{fieldsGiven}
+use Rattle.hour.specs.declared.Edition.{Edition}
+use Rattle.hour.specs.declared.Edition.the-variants as Edition
+use Rattle.exercise.specs.Layout.{transactionSize}
+use Rattle.exercise.specs.Lists.{transactionLength}
 use Rattle.exercise.specs.Written.{packed, run, priceBits}
+use Rattle.exercise_write.specs.Inside.{fieldsGiven, FieldsFit}
+use Rattle.exercise_write.proofs.Ready.{prices-fit, rows-fit, transactions-fit, put-stores}
 use Rattle.exercise_write.proofs.put_file.Statement.{statement}
 use Rattle.exercise_write.proofs.put_file.Tie as tie
 
@@ -33,7 +38,7 @@ mul-put-prices c = search needs
 put-prices-requires : tie.Need-put-prices-requires
 put-prices-requires c κs = let s = start (c .before .before .before) in
     let a = s .args in
-    (omega (arith, s .pre .enough), omega (arith, s .pre .prices-long), prices-fit (a .participants) (a .locations) (a .rows) (a .transactions) (a .prices .now) (a .row-list .now) (a .transaction-list .now) (s .pre .fits))
+    (omega (arith, s .pre .enough), omega (arith, s .pre .prices-long), prices-fit (a .participants) (a .locations) (a .rows) (a .transactions) (a .edition) (a .prices .now) (a .row-list .now) (a .transaction-list .now) (s .pre .fits))
 
 mul-rows-at : tie.Need-mul-rows-at
 mul-rows-at c = search needs
@@ -47,7 +52,10 @@ add-rows-at c = search needs
 put-packed-requires : tie.Need-put-packed-requires
 put-packed-requires c κs = let s = start (priced (c .before .before .before)) in
     let a = s .args in
-    (omega (arith, s .pre .enough), omega (arith, s .pre .rows-long), rows-fit (a .participants) (a .locations) (a .rows) (a .transactions) (a .prices .now) (a .row-list .now) (a .transaction-list .now) (s .pre .fits))
+    (omega (arith, s .pre .enough), omega (arith, s .pre .rows-long), rows-fit (a .participants) (a .locations) (a .rows) (a .transactions) (a .edition) (a .prices .now) (a .row-list .now) (a .transaction-list .now) (s .pre .fits))
+
+edition-of-requires : tie.Need-edition-of-requires
+edition-of-requires c κs = search needs
 
 mul-put-packed : tie.Need-mul-put-packed
 mul-put-packed c = search needs
@@ -56,21 +64,25 @@ add-put-packed : tie.Need-add-put-packed
 add-put-packed c = search needs
 
 put-packed-requires-2 : tie.Need-put-packed-requires-2
-put-packed-requires-2 c κs = let s = start (priced (rowed (c .before .before .before))) in
+put-packed-requires-2 c κs = let s = start (priced (rowed (c .before .before .before .before))) in
     let a = s .args in
-    (omega (arith, s .pre .enough), omega (arith, s .pre .transactions-long), transactions-fit (a .participants) (a .locations) (a .rows) (a .transactions) (a .prices .now) (a .row-list .now) (a .transaction-list .now) (s .pre .fits))
+    let same = sym (c .before .edition-of .ensures) in
+    let enough = subst (λ (e : Edition). 5 + 3 * (26 * a .locations) + 6 * a .rows + transactionSize e * a .transactions ≤ length (a .out .now)) same (s .pre .enough) in
+    (omega (arith, enough), omega (arith, s .pre .transactions-long, ap (λ (e : Edition). transactionLength e * a .transactions) same), subst (λ (e : Edition). FieldsFit true e (a .transaction-list .now) (a .transactions)) same (transactions-fit (a .participants) (a .locations) (a .rows) (a .transactions) (a .edition) (a .prices .now) (a .row-list .now) (a .transaction-list .now) (s .pre .fits)))
 
 same-length : tie.Need-same-length
 same-length c = search needs
 
 returns : tie.Need-returns
 returns c = let t = c .before .before in
-    let r = t .before .before .before .before in
+    let o = t .before .before in
+    let r = o .before .before .before in
     let q = rowed r in
     let h = priced q in
-    let a = start h .args in
+    let s = start h in
+    let a = s .args in
     let rows-at = 5 + 3 * (26 * a .locations) in
-    t .put-packed2 .ensures ∙ ap (λ (o : List ℕ). sets o (rows-at + 6 * a .rows) (run 6 packed (tab (fieldsGiven true (a .transaction-list .now)) (a .transactions)))) (r .put-packed .ensures ∙ ap (λ (o : List ℕ). sets o rows-at (run 6 packed (tab (fieldsGiven false (a .row-list .now)) (a .rows)))) (q .put-prices .ensures ∙ ap (λ (o : List ℕ). sets o 5 (run 3 priceBits (tab (numberAt (a .prices .now)) (26 * a .locations)))) (h .put-header .ensures))) ∙ put-stores (a .participants) (a .locations) (a .rows) (a .transactions) (a .prices .now) (a .row-list .now) (a .transaction-list .now) (a .out .now) rows-at (rows-at + 6 * a .rows) refl refl
+    t .put-packed2 .ensures ∙ ap₂ (λ (o : List ℕ) (e : Edition). sets o (rows-at + 6 * a .rows) (run (transactionSize e) packed (tab (fieldsGiven true e (a .transaction-list .now)) (a .transactions)))) (r .put-packed .ensures ∙ ap (λ (o : List ℕ). sets o rows-at (run 6 packed (tab (fieldsGiven false Edition.PathOnly (a .row-list .now)) (a .rows)))) (q .put-prices .ensures ∙ ap (λ (o : List ℕ). sets o 5 (run 3 priceBits (tab (numberAt (a .prices .now)) (26 * a .locations)))) (h .put-header .ensures))) (o .edition-of .ensures) ∙ put-stores (a .participants) (a .locations) (a .rows) (a .transactions) (a .edition) (a .prices .now) (a .row-list .now) (a .transaction-list .now) (s .pre .header .known-edition) (a .out .now) rows-at (rows-at + 6 * a .rows) refl refl
 
 pub put-file-spec : {M : Type 1} → statement M
 put-file-spec =
@@ -83,6 +95,7 @@ put-file-spec =
     mul-rows-at-2
     add-rows-at
     put-packed-requires
+    edition-of-requires
     mul-put-packed
     add-put-packed
     put-packed-requires-2

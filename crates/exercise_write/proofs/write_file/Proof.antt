@@ -17,7 +17,7 @@ use Rattle.exercise_write.proofs.write_file.Statement.{statement}
 use Rattle.exercise_write.proofs.write_file.Tie as tie
 
 -- the counts end the order
-early : (c : Content) (room r : ℕ) → (r ≡ 0 → ⊥) → r ≡ countsRefusal (c .participants) (c .locations) (c .rows) (c .transactions) → r ≡ writeRefusal c room
+early : (c : Content) (room r : ℕ) → (r ≡ 0 → ⊥) → r ≡ countsRefusal (c .participants) (c .locations) (c .rows) (c .transactions) (c .edition) → r ≡ writeRefusal c room
 unfolding writeRefusal
 early c room r some e = then-ends _ _ r some e
 
@@ -25,18 +25,19 @@ abbrev start : tie.After-counts-refusal → tie.Start
 start c = c .before .before .before .before .before
 
 abbrev given : tie.Start → Content
-given s = let a = s .args in content (a .participants) (a .locations) (a .rows) (a .transactions) (a .prices .now) (a .row-list .now) (a .transaction-list .now)
+given s = let a = s .args in content (a .participants) (a .locations) (a .rows) (a .transactions) (a .edition) (a .prices .now) (a .row-list .now) (a .transaction-list .now)
 
-refusal : (c : tie.After-counts-refusal) → let a = start c .args in c .counts-refusal .result ≡ countsRefusal (a .participants) (a .locations) (a .rows) (a .transactions)
+refusal : (c : tie.After-counts-refusal) → let a = start c .args in c .counts-refusal .result ≡ countsRefusal (a .participants) (a .locations) (a .rows) (a .transactions) (a .edition)
 refusal c =
     let f = start c .fits in
     let a = start c .args in
     c .counts-refusal .ensures
-    ∙ ap₂ (λ (p l : ℤ). countsRefusal p l (toZ w64 (ofZ w64 (a .rows))) (toZ w64 (ofZ w64 (a .transactions)))) (toZ-ofZ (f .participants)) (toZ-ofZ (f .locations))
-    ∙ ap₂ (countsRefusal (a .participants) (a .locations)) (toZ-ofZ (f .rows)) (toZ-ofZ (f .transactions))
+    ∙ ap₂ (λ (p l : ℤ). countsRefusal p l (toZ w64 (ofZ w64 (a .rows))) (toZ w64 (ofZ w64 (a .transactions))) (toZ w64 (ofZ w64 (a .edition)))) (toZ-ofZ (f .participants)) (toZ-ofZ (f .locations))
+    ∙ ap₂ (λ (r t : ℤ). countsRefusal (a .participants) (a .locations) r t (toZ w64 (ofZ w64 (a .edition)))) (toZ-ofZ (f .rows)) (toZ-ofZ (f .transactions))
+    ∙ ap (countsRefusal (a .participants) (a .locations) (a .rows) (a .transactions)) (toZ-ofZ (f .edition))
 
-passed : (c : tie.Else1) → let a = start (c .before) .args in Counted 1 64 (a .participants) × Counted 1 64 (a .locations) × Counted 0 2048 (a .rows) × Counted 0 256 (a .transactions)
-passed c = counts-right _ _ _ _ (sym (refusal (c .before)) ∙ c .if1 .left)
+passed : (c : tie.Else1) → let a = start (c .before) .args in Counted 1 64 (a .participants) × Counted 1 64 (a .locations) × Counted 0 2048 (a .rows) × Counted 0 256 (a .transactions) × Counted 0 1 (a .edition)
+passed c = counts-right _ _ _ _ _ (sym (refusal (c .before)) ∙ c .if1 .left)
 
 counts-refusal-requires : tie.Need-counts-refusal-requires
 counts-refusal-requires c κs = search needs
@@ -58,6 +59,9 @@ cast-write-counted-3 c = count-cast (start (c .before) .fits .rows) (passed c .2
 cast-write-counted-4 : tie.Need-cast-write-counted-4
 cast-write-counted-4 c = count-cast (start (c .before) .fits .transactions) (passed c .3) (omega arith)
 
+cast-write-counted-5 : tie.Need-cast-write-counted-5
+cast-write-counted-5 c = count-cast (start (c .before) .fits .edition) (passed c .4) (omega arith)
+
 write-counted-requires : tie.Need-write-counted-requires
 write-counted-requires c κs = let s = start (c .before .before) in
     let k = passed (c .before) in
@@ -70,6 +74,7 @@ write-counted-requires c κs = let s = start (c .before .before) in
       few-locations = l .1;
       few-rows = count-within (s .fits .rows) (k .2) .1;
       few-transactions = count-within (s .fits .transactions) (k .3) .1;
+      known-edition = count-within (s .fits .edition) (k .4) .1;
     }
 
 same-length : tie.Need-same-length
@@ -80,7 +85,7 @@ returns-2 c = let w = c .before .before .write-counted in
     let e = c .before .before .before .before in
     let s = start (e .before) in
     let k = passed e in
-    let same = content-same {ps = s .args .prices .now} {rs = s .args .row-list .now} {ts = s .args .transaction-list .now} (count-is (s .fits .participants) (k .0)) (count-is (s .fits .locations) (k .1)) (count-is (s .fits .rows) (k .2)) (count-is (s .fits .transactions) (k .3)) in
+    let same = content-same {ps = s .args .prices .now} {rs = s .args .row-list .now} {ts = s .args .transaction-list .now} (count-is (s .fits .participants) (k .0)) (count-is (s .fits .locations) (k .1)) (count-is (s .fits .rows) (k .2)) (count-is (s .fits .transactions) (k .3)) (count-is (s .fits .edition) (k .4)) in
     (w .ensures .0 ∙ ap (λ (g : Content). writeRefusal g (length (s .args .file .now))) same, w .ensures .1 ∙ ap (λ (g : Content). writeOutcome g (s .args .file .now)) same)
 
 pub write-file-spec : {M : Type 1} → statement M
@@ -93,6 +98,7 @@ write-file-spec =
     cast-write-counted-2
     cast-write-counted-3
     cast-write-counted-4
+    cast-write-counted-5
     write-counted-requires
     same-length
     returns-2)

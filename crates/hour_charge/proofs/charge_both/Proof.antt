@@ -1,13 +1,27 @@
 -- `hour_charge::charge_both` meets its contract. Assumes nothing.
-use mathlib.Core.Path.{_∙_}
+use mathlib.Core.Path.{_≡_, sym, ap, _∙_, subst}
+use mathlib.Core.List.{List}
+use Prim.Native.Nat.{ℕ, _*_, _≤_}
+use lib.IntN.{ℤ}
+use lib.ListN.{length}
 use borrow.Author.Needs.{needs}
 use Rattle.ints.proofs.Turns.{then-ends, then-follows}
+use Rattle.hour.specs.declared.Edition.{Edition}
+use Rattle.exercise.specs.File.{transactionsIn}
+use Rattle.exercise.specs.Inside.{transactionsInRefusal}
+use Rattle.exercise.specs.Layout.{transactionSize}
+use Rattle.hour_charge.specs.Inside.{TransactionsAdded}
 use Rattle.hour_charge.proofs.Added.{shared, both-added}
 use Rattle.hour_charge.proofs.charge_both.Statement.{statement}
 use Rattle.hour_charge.proofs.charge_both.Tie as tie
 
 abbrev given : tie.After-charge-rows → tie.Start
 given r = r .before .before .before .before .before .before
+
+-- what was added in the edition that was read
+in-edition : {edition own : Edition} (s : List ℕ) (n locations : ℕ) (weights real : List ℤ) {before after : List ℤ} → edition ≡ own
+    → TransactionsAdded edition (transactionsIn edition s n) locations weights real before after → TransactionsAdded own (transactionsIn own s n) locations weights real before after
+in-edition s n locations weights real {before} {after} = subst (λ (edition : Edition). TransactionsAdded edition (transactionsIn edition s n) locations weights real before after)
 
 charge-rows-requires : tie.Need-charge-rows-requires
 charge-rows-requires c κs = search needs
@@ -25,11 +39,19 @@ returns : tie.Need-returns
 returns c = let r = c .before .before .before .before in
     (then-ends _ _ _ (c .if1 .taken) (r .charge-rows .ensures .0), (λ z. absurd (c .if1 .taken z), (λ z. absurd (c .if1 .taken z), λ z. absurd (c .if1 .taken z))))
 
+edition-of-requires : tie.Need-edition-of-requires
+edition-of-requires c κs = search needs
+
 charge-transactions-requires : tie.Need-charge-transactions-requires
-charge-transactions-requires c κs = let l = c .before .before in
+charge-transactions-requires c κs = let k = c .before .before in
+    let l = k .before in
     let r = l .before .before .before .before in
     let s = given r in (
-      (s .pre .0 .0, s .pre .0 .2, s .pre .0 .4),
+      (
+        s .pre .0 .0,
+        s .pre .0 .2,
+        subst (λ (edition : Edition). transactionSize edition * s .args .header .transactions ≤ length (s .args .transactions .now)) (sym (k .edition-of .ensures)) (s .pre .0 .4),
+      ),
       (
         s .pre .1 .0,
         (
@@ -50,15 +72,20 @@ same-length-6 c = search needs
 
 returns-2 : tie.Need-returns-2
 returns-2 c = let t = c .before .before in
-    let l = t .before .before .before in
+    let k = t .before .before .before in
+    let l = k .before in
     let r = l .before .before .before .before in
     let s = given r in
+    let a = s .args in
+    let e = k .edition-of .ensures in
     let m = r .charge-rows .ensures .1 in (
-      t .charge-transactions .ensures .0 ∙ then-follows _ _ _ (l .if1 .left) (r .charge-rows .ensures .0),
+      t .charge-transactions .ensures .0
+          ∙ ap (λ (edition : Edition). transactionsInRefusal edition (a .header .participants) (a .header .locations) (a .transactions .now) (a .header .transactions)) e
+          ∙ then-follows _ _ _ (l .if1 .left) (r .charge-rows .ensures .0),
       (
-        λ z. both-added (s .args .header) _ _ _ _ (s .pre .1 .1 .0) (m .0 (l .if1 .left) .0) (t .charge-transactions .ensures .1 .0 z),
+        λ z. both-added (s .args .header) _ _ _ _ (s .pre .1 .1 .0) (m .0 (l .if1 .left) .0) (in-edition (a .transactions .now) (a .header .transactions) (a .header .locations) (a .congestion-weights .now) (a .congestion-real .now) e (t .charge-transactions .ensures .1 .0 z)),
         (
-          λ z. both-added (s .args .header) _ _ _ _ (s .pre .1 .1 .1) (m .1 .0 (l .if1 .left) .0) (t .charge-transactions .ensures .1 .1 z),
+          λ z. both-added (s .args .header) _ _ _ _ (s .pre .1 .1 .1) (m .1 .0 (l .if1 .left) .0) (in-edition (a .transactions .now) (a .header .transactions) (a .header .locations) (a .loss-weights .now) (a .loss-real .now) e (t .charge-transactions .ensures .1 .1 z)),
           λ _. shared _ (s .args .header .rows) (s .pre .1 .1 .2) (m .1 .1 (l .if1 .left)),
         ),
       ),
@@ -73,6 +100,7 @@ charge-both-spec =
     same-length-2
     same-length-3
     returns
+    edition-of-requires
     charge-transactions-requires
     same-length-4
     same-length-5

@@ -1,12 +1,13 @@
 -- `hour_charge::charge_rows` meets its contract. Assumes nothing.
-use mathlib.Core.Path.{_≡_, refl, sym, ap, _∙_}
+use mathlib.Core.Path.{_≡_, sym, ap, _∙_}
 use mathlib.Core.List.{List}
 use Prim.Native.Nat.{ℕ, _-_, _≤_, _<_}
 use native.Mathlib.Omega.{arith}
 use lib.Dec.{lit≤}
 use lib.IntN.{ℤ}
 use borrow.Author.Needs.{needs}
-use Rattle.ints.proofs.Adding.{Adding, adding-start, adding-next, adding-range, adding-done}
+use Rattle.ints.proofs.Adding.{Adding, adding-start, owner-next, adding-range, adding-done}
+use Rattle.ints.specs.InsideEvery.{toOwner}
 use Rattle.ints.proofs.Turns.{turn-start}
 use Rattle.exercise.specs.File.{rowAt}
 use Rattle.hour.specs.InsideTested.{RowTested}
@@ -24,10 +25,10 @@ use Rattle.exercise.specs.Inside.{rowsInRefusal}
 
 -- totals to which the first i rows, and shares to which their kW, have been added
 abbrev Charging : List ℕ → ℕ → List ℤ → List ℤ → List ℤ → ℕ → List ℤ → Type 0
-Charging rows locations weights real before i totals = Adding (λ r. r .participant) (partIn weights real locations) (rowAt rows) 0 2400000000000000 before i totals
+Charging rows locations weights real before i totals = Adding (toOwner (λ r. r .participant) (partIn weights real locations)) (rowAt rows) 0 2400000000000000 before i totals
 
 abbrev Sharing : List ℕ → List ℤ → ℕ → List ℤ → Type 0
-Sharing rows before i shares = Adding (λ r. r .participant) shareKw (rowAt rows) 0 20000000 before i shares
+Sharing rows before i shares = Adding (toOwner (λ r. r .participant) shareKw) (rowAt rows) 0 20000000 before i shares
 
 abbrev Inv-loop : tie.InvT-loop
 Inv-loop participants locations rows n congestion-weights congestion-real loss-weights loss-real exact-congestion₀ exact-loss₀ shares₀ i₀ exact-congestion exact-loss shares i = (i ≤ n) × (rowsInRefusal participants locations rows i ≡ 0) × Charging rows locations congestion-weights congestion-real exact-congestion₀ i exact-congestion × Charging rows locations loss-weights loss-real exact-loss₀ i exact-loss × Sharing rows shares₀ i shares
@@ -62,17 +63,17 @@ module _ (d : tie.After-decoded Inv-loop μ-loop) where
   few = omega (arith, given .pre .0 .1, inside)
 
   congestion-now : Totals (head .loop .exact-congestion) rowsMost
-  congestion-now = record { long = head .loop .inv .2 .long ∙ given .pre .1 .1 .0 .long; range = adding-range _ _ _ _ _ (head .loop .inv .2) 2048 rowsMost few (lit≤ tt) }
+  congestion-now = record { long = head .loop .inv .2 .long ∙ given .pre .1 .1 .0 .long; range = adding-range _ _ _ _ (head .loop .inv .2) 2048 rowsMost few (lit≤ tt) }
 
   loss-now : Totals (head .loop .exact-loss) rowsMost
-  loss-now = record { long = head .loop .inv .3 .long ∙ given .pre .1 .1 .1 .long; range = adding-range _ _ _ _ _ (head .loop .inv .3) 2048 rowsMost few (lit≤ tt) }
+  loss-now = record { long = head .loop .inv .3 .long ∙ given .pre .1 .1 .1 .long; range = adding-range _ _ _ _ (head .loop .inv .3) 2048 rowsMost few (lit≤ tt) }
 
   shares-now : Totals (head .loop .shares) sharesMost
-  shares-now = record { long = head .loop .inv .4 .long ∙ given .pre .1 .1 .2 .long; range = adding-range _ _ _ _ _ (head .loop .inv .4) 2048 sharesMost few (lit≤ tt) }
+  shares-now = record { long = head .loop .inv .4 .long ∙ given .pre .1 .1 .2 .long; range = adding-range _ _ _ _ (head .loop .inv .4) 2048 sharesMost few (lit≤ tt) }
 
 loop-holds : tie.Need-loop-holds Inv-loop μ-loop
 loop-holds c = let s = c .before in
-    (search needs, turn-start _, adding-start _ _ _ _ _ (s .pre .1 .1 .0 .range), adding-start _ _ _ _ _ (s .pre .1 .1 .1 .range), adding-start _ _ _ _ _ (s .pre .1 .1 .2 .range))
+    (search needs, turn-start _, adding-start _ _ _ _ (s .pre .1 .1 .0 .range), adding-start _ _ _ _ (s .pre .1 .1 .1 .range), adding-start _ _ _ _ (s .pre .1 .1 .2 .range))
 
 row-at-requires : tie.Need-row-at-requires Inv-loop μ-loop
 row-at-requires c κs = search needs
@@ -129,9 +130,9 @@ loop-again c = let loss-node = c .before .before .before .before in
     let s = given d in (
       omega (arith, inside d),
       row-next _ _ _ _ _ (at-row d .row-at .ensures) (head d .loop .inv .1) _ (d .decoded .given .1),
-      adding-next _ _ _ _ _ _ (head d .loop .inv .2) (row d) (is d) (omega (arith, tested d .participant, congestion-now d .long)) refl (congestion-node .add-row .ensures) (part-range (s .pre .1 .0 .0) (tested d)),
-      adding-next _ _ _ _ _ _ (head d .loop .inv .3) (row d) (is d) (omega (arith, tested d .participant, loss-now d .long)) refl (loss-node .add-row2 .ensures) (part-range (s .pre .1 .0 .1) (tested d)),
-      adding-next _ _ _ _ _ _ (head d .loop .inv .4) (row d) (is d) (omega (arith, tested d .participant, shares-now d .long)) refl (c .before .add-share .ensures) (share-range (row d) (tested d .kw)),
+      owner-next _ _ _ _ _ (head d .loop .inv .2) (row d) (is d) (omega (arith, tested d .participant, congestion-now d .long)) (congestion-node .add-row .ensures) (part-range (s .pre .1 .0 .0) (tested d)),
+      owner-next _ _ _ _ _ (head d .loop .inv .3) (row d) (is d) (omega (arith, tested d .participant, loss-now d .long)) (loss-node .add-row2 .ensures) (part-range (s .pre .1 .0 .1) (tested d)),
+      owner-next _ _ _ _ _ (head d .loop .inv .4) (row d) (is d) (omega (arith, tested d .participant, shares-now d .long)) (c .before .add-share .ensures) (share-range (row d) (tested d .kw)),
     )
 
 same-length-4 : tie.Need-same-length-4 Inv-loop μ-loop
@@ -149,10 +150,10 @@ returns-2 c = let a = c .before in
     let e : a .loop .i ≡ s .args .n = omega arith in (
       sym (ap (rowsInRefusal (s .args .participants) (s .args .locations) (s .args .rows .now)) (sym e) ∙ a .loop .inv .1),
       (
-        λ _. (adding-done _ _ _ _ _ (a .loop .inv .2) _ e, adding-range _ _ _ _ _ (a .loop .inv .2) 2048 rowsMost (omega (arith, s .pre .0 .1)) (lit≤ tt)),
+        λ _. (adding-done _ _ _ _ (a .loop .inv .2) _ e, adding-range _ _ _ _ (a .loop .inv .2) 2048 rowsMost (omega (arith, s .pre .0 .1)) (lit≤ tt)),
         (
-          λ _. (adding-done _ _ _ _ _ (a .loop .inv .3) _ e, adding-range _ _ _ _ _ (a .loop .inv .3) 2048 rowsMost (omega (arith, s .pre .0 .1)) (lit≤ tt)),
-          λ _. adding-done _ _ _ _ _ (a .loop .inv .4) _ e,
+          λ _. (adding-done _ _ _ _ (a .loop .inv .3) _ e, adding-range _ _ _ _ (a .loop .inv .3) 2048 rowsMost (omega (arith, s .pre .0 .1)) (lit≤ tt)),
+          λ _. adding-done _ _ _ _ (a .loop .inv .4) _ e,
         ),
       ),
     )

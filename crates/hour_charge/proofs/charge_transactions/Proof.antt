@@ -1,10 +1,12 @@
 -- `hour_charge::charge_transactions` meets its contract. Assumes nothing.
-use mathlib.Core.Path.{_≡_, refl, sym, ap, _∙_}
+use mathlib.Core.Path.{_≡_, sym, ap, _∙_}
 use mathlib.Core.List.{List}
-use Prim.Native.Nat.{ℕ, _-_, _≤_, _<_}
+use Prim.Native.Nat.{ℕ, _+_, _-_, _≤_, _<_}
 use native.Mathlib.Omega.{arith}
 use lib.Dec.{lit≤}
 use lib.IntN.{ℤ}
+use lib.ListN.{length}
+use Rattle.ints.specs.Table.{_at_}
 use borrow.Author.Needs.{needs}
 use Rattle.ints.proofs.Adding.{Adding, adding-start, adding-next, adding-range, adding-done}
 use Rattle.ints.proofs.Turns.{turn-start}
@@ -12,23 +14,41 @@ use Rattle.hour.specs.InsideTested.{TransactionTested}
 use Rattle.exercise.specs.File.{transactionAt}
 use Rattle.hour.specs.declared.Transaction.{Transaction}
 use Rattle.exercise.proofs.Answers.{transaction-next, transaction-first, transaction-some}
-use Rattle.hour_totals.specs.Inside.{pathPartIn, Totals}
+use Rattle.exercise.specs.Layout.{transactionSize}
+use Rattle.exercise.proofs.Runs.{in-turn}
+use Rattle.hour.specs.declared.Edition.{Edition}
+use Rattle.hour.specs.InsideParts.{weightIn, addsTo}
+use Rattle.hour.proofs.Legs.{adds-within}
+use Rattle.hour_weights.specs.Inside.{Tables}
+use Rattle.hour_weights.proofs.Weights.{weight-range}
+use Rattle.hour_totals.specs.Inside.{Totals, transactionAdded}
+use Rattle.hour_totals.proofs.Added.{length-added, added-at}
 use Rattle.hour.specs.InsideTotals.{rowsMost, hourMost}
 use Rattle.hour_charge.proofs.Decoded.{transaction-is, transaction-passed}
-use Rattle.hour_totals.proofs.Sizes.{path-part-range}
 use Rattle.hour_charge.proofs.charge_transactions.Statement.{statement}
 use Rattle.hour_charge.proofs.charge_transactions.Tie as tie
 use Rattle.exercise.specs.Inside.{transactionsInRefusal}
 
 -- totals to which the first i transactions have been added
-abbrev Charging : List ℕ → ℕ → List ℤ → List ℤ → List ℤ → ℕ → List ℤ → Type 0
-Charging transactions locations weights real before i totals = Adding (λ t. t .participant) (pathPartIn weights real locations) (transactionAt transactions) rowsMost 4800000000000000 before i totals
+abbrev Charging : Edition → List ℕ → ℕ → List ℤ → List ℤ → List ℤ → ℕ → List ℤ → Type 0
+Charging edition transactions locations weights real before i totals = Adding (addsTo edition (weightIn weights real locations)) (transactionAt edition transactions) rowsMost 4800000000000000 before i totals
 
 abbrev Inv-loop : tie.InvT-loop
-Inv-loop participants locations transactions n congestion-weights congestion-real loss-weights loss-real exact-congestion₀ exact-loss₀ i₀ exact-congestion exact-loss i = (i ≤ n) × (transactionsInRefusal participants locations transactions i ≡ 0) × Charging transactions locations congestion-weights congestion-real exact-congestion₀ i exact-congestion × Charging transactions locations loss-weights loss-real exact-loss₀ i exact-loss
+Inv-loop edition participants locations transactions n congestion-weights congestion-real loss-weights loss-real exact-congestion₀ exact-loss₀ i₀ exact-congestion exact-loss i = (i ≤ n) × (transactionsInRefusal edition participants locations transactions i ≡ 0) × Charging edition transactions locations congestion-weights congestion-real exact-congestion₀ i exact-congestion × Charging edition transactions locations loss-weights loss-real exact-loss₀ i exact-loss
 
 abbrev μ-loop : tie.MeasureT-loop
-μ-loop participants locations transactions n congestion-weights congestion-real loss-weights loss-real exact-congestion₀ exact-loss₀ i₀ exact-congestion exact-loss i = n - i
+μ-loop edition participants locations transactions n congestion-weights congestion-real loss-weights loss-real exact-congestion₀ exact-loss₀ i₀ exact-congestion exact-loss i = n - i
+
+-- one transaction more, whatever its edition
+one-more : (edition : Edition) (transactions : List ℕ) (i : ℕ) {locations : ℕ} {weights real before totals after : List ℤ} {t : Transaction}
+    → TransactionTested 64 locations t → Tables locations weights real → Charging edition transactions locations weights real before i totals → transactionAt edition transactions i ≡ t
+    → length totals ≡ 64 → after ≡ transactionAdded edition (weightIn weights real locations) t totals → Charging edition transactions locations weights real before (i + 1) after
+one-more edition transactions i {locations = locations} {weights = weights} {real = real} {totals = totals} {t = t} q h a is long stored =
+    let counts = weightIn weights real locations in
+    adding-next _ _ _ _ a t is
+    (λ p. ap (λ (xs : List ℤ). xs at p) stored ∙ added-at counts t totals (omega (arith, q .participant)) (omega (arith, q .seller)) p edition)
+    (λ p. adds-within counts (weight-range h) edition t (q .kw) p)
+    (ap length stored ∙ length-added counts t totals edition)
 
 -- a transaction that was decoded in the loop
 module _ (d : tie.After-decoded Inv-loop μ-loop) where
@@ -44,11 +64,11 @@ module _ (d : tie.After-decoded Inv-loop μ-loop) where
   abbrev transaction : Transaction
   transaction = d .decoded .given .0 .0
 
-  is : transactionAt (given .args .transactions .now) (head .loop .i) ≡ transaction
-  is = transaction-is _ _ (given .pre .0 .0) _ _ _ (at-transaction .transaction-at .ensures) transaction (d .decoded .given .1)
+  is : transactionAt (given .args .edition) (given .args .transactions .now) (head .loop .i) ≡ transaction
+  is = transaction-is (given .args .edition) (given .args .participants) (given .args .locations) (given .pre .0 .0) (given .args .transactions .now) (head .loop .i) _ (at-transaction .transaction-at .ensures) transaction (d .decoded .given .1)
 
   tested : TransactionTested 64 (given .args .locations) transaction
-  tested = transaction-passed _ _ (given .pre .0 .0) _ _ _ (at-transaction .transaction-at .ensures) transaction (d .decoded .given .1)
+  tested = transaction-passed (given .args .edition) (given .args .participants) (given .args .locations) (given .pre .0 .0) (given .args .transactions .now) (head .loop .i) _ (at-transaction .transaction-at .ensures) transaction (d .decoded .given .1)
 
   inside : head .loop .i < given .args .n
   inside = at-transaction .before .loop-test .taken
@@ -57,17 +77,19 @@ module _ (d : tie.After-decoded Inv-loop μ-loop) where
   few = omega (arith, given .pre .0 .1, inside)
 
   congestion-now : Totals (head .loop .exact-congestion) hourMost
-  congestion-now = record { long = head .loop .inv .2 .long ∙ given .pre .1 .1 .0 .long; range = adding-range _ _ _ _ _ (head .loop .inv .2) 256 hourMost few (lit≤ tt) }
+  congestion-now = record { long = head .loop .inv .2 .long ∙ given .pre .1 .1 .0 .long; range = adding-range _ _ _ _ (head .loop .inv .2) 256 hourMost few (lit≤ tt) }
 
   loss-now : Totals (head .loop .exact-loss) hourMost
-  loss-now = record { long = head .loop .inv .3 .long ∙ given .pre .1 .1 .1 .long; range = adding-range _ _ _ _ _ (head .loop .inv .3) 256 hourMost few (lit≤ tt) }
+  loss-now = record { long = head .loop .inv .3 .long ∙ given .pre .1 .1 .1 .long; range = adding-range _ _ _ _ (head .loop .inv .3) 256 hourMost few (lit≤ tt) }
 
 loop-holds : tie.Need-loop-holds Inv-loop μ-loop
 loop-holds c = let s = c .before in
-    (search needs, turn-start _, adding-start _ _ _ _ _ (s .pre .1 .1 .0 .range), adding-start _ _ _ _ _ (s .pre .1 .1 .1 .range))
+    (search needs, turn-start _, adding-start _ _ _ _ (s .pre .1 .1 .0 .range), adding-start _ _ _ _ (s .pre .1 .1 .1 .range))
 
 transaction-at-requires : tie.Need-transaction-at-requires Inv-loop μ-loop
-transaction-at-requires c κs = search needs
+transaction-at-requires c κs = let l = c .before in
+    let s = l .before .before in
+    omega (arith, s .pre .0 .2, in-turn (transactionSize (s .args .edition)) (l .loop .i) (s .args .n) (c .loop-test .taken))
 
 enum-known-decoded : tie.Need-enum-known-decoded Inv-loop μ-loop
 enum-known-decoded c = search needs
@@ -86,12 +108,13 @@ same-length-2 c = c .before .before .before .before .before .loop .inv .3 .long
 
 returns : tie.Need-returns Inv-loop μ-loop
 returns c = let a = c .before .before .before .before .before in
+    let s = a .before .before .args in
     let d = c .before .before .before in
     let e = d .transaction-at .ensures in
     let q = c .before .enum-told .given .1 in
     let h = d .before .loop-test .taken in
-    let some : c .decoded-transaction-refusal .result ≡ 0 → ⊥ = λ z. transaction-some _ _ _ _ _ e (a .loop .inv .1) _ q (sym (c .decoded-transaction-refusal .ensures) ∙ z) in
-    (c .decoded-transaction-refusal .ensures ∙ transaction-first _ _ _ _ _ e (a .loop .inv .1) _ _ q h, (λ z. absurd (some z), λ z. absurd (some z)))
+    let some : c .decoded-transaction-refusal .result ≡ 0 → ⊥ = λ z. transaction-some (s .edition) (s .participants) (s .locations) (s .transactions .now) (a .loop .i) _ e (a .loop .inv .1) _ q (sym (c .decoded-transaction-refusal .ensures) ∙ z) in
+    (c .decoded-transaction-refusal .ensures ∙ transaction-first (s .edition) (s .participants) (s .locations) (s .transactions .now) (a .loop .i) _ e (a .loop .inv .1) _ _ q h, (λ z. absurd (some z), λ z. absurd (some z)))
 
 add-transaction-requires : tie.Need-add-transaction-requires Inv-loop μ-loop
 add-transaction-requires c κs = let d = c .before .before in
@@ -112,9 +135,9 @@ loop-again c = let congestion-node = c .before .before .before .before in
     let d = congestion-node .before .before .before in
     let s = given d in (
       omega (arith, inside d),
-      transaction-next _ _ _ _ _ (at-transaction d .transaction-at .ensures) (head d .loop .inv .1) _ (d .decoded .given .1),
-      adding-next _ _ _ _ _ _ (head d .loop .inv .2) (transaction d) (is d) (omega (arith, tested d .participant, congestion-now d .long)) refl (congestion-node .add-transaction .ensures) (path-part-range (s .pre .1 .0 .0) (tested d)),
-      adding-next _ _ _ _ _ _ (head d .loop .inv .3) (transaction d) (is d) (omega (arith, tested d .participant, loss-now d .long)) refl (c .before .add-transaction2 .ensures) (path-part-range (s .pre .1 .0 .1) (tested d)),
+      transaction-next (s .args .edition) (s .args .participants) (s .args .locations) (s .args .transactions .now) (head d .loop .i) _ (at-transaction d .transaction-at .ensures) (head d .loop .inv .1) _ (d .decoded .given .1),
+      one-more (s .args .edition) (s .args .transactions .now) (head d .loop .i) (tested d) (s .pre .1 .0 .0) (head d .loop .inv .2) (is d) (congestion-now d .long) (congestion-node .add-transaction .ensures),
+      one-more (s .args .edition) (s .args .transactions .now) (head d .loop .i) (tested d) (s .pre .1 .0 .1) (head d .loop .inv .3) (is d) (loss-now d .long) (c .before .add-transaction2 .ensures),
     )
 
 same-length-3 : tie.Need-same-length-3 Inv-loop μ-loop
@@ -127,8 +150,8 @@ returns-2 : tie.Need-returns-2 Inv-loop μ-loop
 returns-2 c = let a = c .before in
     let s = a .before .before in
     let e : a .loop .i ≡ s .args .n = omega arith in (
-      sym (ap (transactionsInRefusal (s .args .participants) (s .args .locations) (s .args .transactions .now)) (sym e) ∙ a .loop .inv .1),
-      (λ _. adding-done _ _ _ _ _ (a .loop .inv .2) _ e, λ _. adding-done _ _ _ _ _ (a .loop .inv .3) _ e),
+      sym (ap (transactionsInRefusal (s .args .edition) (s .args .participants) (s .args .locations) (s .args .transactions .now)) (sym e) ∙ a .loop .inv .1),
+      (λ _. adding-done _ _ _ _ (a .loop .inv .2) _ e, λ _. adding-done _ _ _ _ (a .loop .inv .3) _ e),
     )
 
 pub charge-transactions-spec : {M : Type 1} → statement M

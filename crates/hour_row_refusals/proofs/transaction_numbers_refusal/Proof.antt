@@ -27,15 +27,19 @@ returns-3 c = let d = c .before in simp (interval (d .before), lt-ltb _ _ (d .if
 
 returns-4 : tie.Need-returns-4
 unfolding transactionRefusal
-returns-4 c = let a = c .before in let d = a .before in simp (interval (d .before), lt-ltb _ _ (d .if2 .left), lt-ltb _ _ (a .if3 .left), le-ltb _ _ (c .if4 .taken))
+returns-4 c = let s = c .before in let d = s .before in simp (interval (d .before), lt-ltb _ _ (d .if2 .left), lt-ltb _ _ (s .if3 .left), le-ltb _ _ (c .if4 .taken))
 
 returns-5 : tie.Need-returns-5
 unfolding transactionRefusal
-returns-5 c = let b = c .before in let a = b .before in let d = a .before in simp (interval (d .before), lt-ltb _ _ (d .if2 .left), lt-ltb _ _ (a .if3 .left), lt-ltb _ _ (b .if4 .left), lt-leb _ _ (c .if5 .taken))
+returns-5 c = let a = c .before in let s = a .before in let d = s .before in simp (interval (d .before), lt-ltb _ _ (d .if2 .left), lt-ltb _ _ (s .if3 .left), lt-ltb _ _ (a .if4 .left), le-ltb _ _ (c .if5 .taken))
 
 returns-6 : tie.Need-returns-6
 unfolding transactionRefusal
-returns-6 c = let b = c .before in let a = b .before in let d = a .before in simp (interval (d .before), lt-ltb _ _ (d .if2 .left), lt-ltb _ _ (a .if3 .left), lt-ltb _ _ (b .if4 .left), le-leb _ _ (c .if5 .left))
+returns-6 c = let b = c .before in let a = b .before in let s = a .before in let d = s .before in simp (interval (d .before), lt-ltb _ _ (d .if2 .left), lt-ltb _ _ (s .if3 .left), lt-ltb _ _ (a .if4 .left), lt-ltb _ _ (b .if5 .left), lt-leb _ _ (c .if6 .taken))
+
+returns-7 : tie.Need-returns-7
+unfolding transactionRefusal
+returns-7 c = let b = c .before in let a = b .before in let s = a .before in let d = s .before in simp (interval (d .before), lt-ltb _ _ (d .if2 .left), lt-ltb _ _ (s .if3 .left), lt-ltb _ _ (a .if4 .left), lt-ltb _ _ (b .if5 .left), le-leb _ _ (c .if6 .left))
 
 pub transaction-numbers-refusal-spec : {M : Type 1} → statement M
 transaction-numbers-refusal-spec =
@@ -47,4 +51,5 @@ transaction-numbers-refusal-spec =
     returns-3
     returns-4
     returns-5
-    returns-6)
+    returns-6
+    returns-7)

@@ -1,63 +1,55 @@
--- `hour_totals::add_transaction` meets its contract. Assumes nothing.
-use mathlib.Core.Path.{_≡_, ap, ap₂, _∙_}
-use native.Mathlib.Omega.{arith}
-use lib.IntN.{ℤ, pos, _+ℤ_, _-ℤ_, _*ℤ_}
-use lib.ListN.{set}
+use denote.Ref.{now}
+use Rattle.hour_totals.specs.Inside.{transactionAdded}
+use Rattle.hour.specs.InsideParts.{weightIn}
+use Rattle.hour.specs.declared.Edition.{Edition}
+use mathlib.Core.Path.{sym, ap, _∙_}
 use borrow.Author.Needs.{needs}
-use Rattle.ints.specs.Table.{_at_}
-use Rattle.ints.proofs.Sizes.{w-add, w-fits}
-use Rattle.hour.proofs.Tested.{interval-below}
-use Rattle.hour_totals.specs.Inside.{pathPartIn}
-use Rattle.hour_weights.proofs.Weights.{weight-range}
-use Rattle.hour_totals.proofs.Sizes.{path-part-range}
 use Rattle.hour_totals.proofs.add_transaction.Statement.{statement}
 use Rattle.hour_totals.proofs.add_transaction.Tie as tie
-use denote.Ref.{now}
 
--- what is added is the transaction's part
-amount : (c : tie.After-struct-known) → c .before .before .path-part .result .0 ≡ pathPartIn (now (c .before .before .before .before .before .args .weights)) (now (c .before .before .before .before .before .args .real)) (c .before .before .before .before .before .args .locations) (c .before .before .before .before .before .args .transaction)
-amount c =
-    c .before .before .path-part .ensures
-    ∙ ap (λ (z : ℤ). pos (c .before .before .before .before .before .args .transaction .kw .0) *ℤ z) (ap₂ _-ℤ_ (c .before .before .before .before .weight-of .ensures) (c .before .before .before .weight-of2 .ensures))
+-- src/lib.rt:151:78
+enum-told : tie.Need-enum-told
+enum-told c = search needs
 
-weight-of-requires : tie.Need-weight-of-requires
-weight-of-requires c κs = (interval-below (c .pre .0 .timed), c .pre .0 .sink, c .pre .1)
+-- src/lib.rt:151:30
+add-path-requires : tie.Need-add-path-requires
+add-path-requires c κs = search needs
 
-weight-of-requires-2 : tie.Need-weight-of-requires-2
-weight-of-requires-2 c κs = let s = c .before in (interval-below (s .pre .0 .timed), s .pre .0 .source, s .pre .1)
+-- src/lib.rt:152:80
+enum-told-2 : tie.Need-enum-told-2
+enum-told-2 c = search needs
 
-path-part-requires : tie.Need-path-part-requires
-path-part-requires c κs = let s = c .before .before in
-    let t = s .args .transaction in (
-      s .pre .0 .kw,
-      rw (c .before .weight-of .ensures) (weight-range (s .pre .1) (t .market) (t .interval) (t .sink)),
-      rw (c .weight-of2 .ensures) (weight-range (s .pre .1) (t .market) (t .interval) (t .source)),
-    )
+-- src/lib.rt:152:32
+add-sale-requires : tie.Need-add-sale-requires
+add-sale-requires c κs = search needs
 
-cast-add-amount : tie.Need-cast-add-amount
-cast-add-amount c = search needs
-
-add-amount-requires : tie.Need-add-amount-requires
-add-amount-requires c κs = let s = c .before .before .before .before .before in (
-  omega (arith, s .pre .0 .participant),
-  rw (amount c) (w-fits (w-add (s .pre .2 .range .each (s .args .transaction .participant)) (path-part-range (s .pre .1) (s .pre .0))) tt),
-)
-
+-- src/lib.rt:139:1
 same-length : tie.Need-same-length
 same-length c = search needs
 
+-- src/lib.rt:139:1
 returns : tie.Need-returns
-returns c = let s = c .before .before .before .before .before .before .before in
-    c .before .add-amount .ensures ∙ ap (λ (z : ℤ). set (now (s .args .totals)) (s .args .transaction .participant) (now (s .args .totals) at s .args .transaction .participant +ℤ z)) (amount (c .before .before))
+returns c = let a = c .before .before .before .before .before .args in
+    c .before .add-path .ensures ∙ sym (ap (λ (edition : Edition). transactionAdded edition (weightIn (now (a .weights)) (now (a .real)) (a .locations)) (a .transaction) (now (a .totals))) (c .before .before .before .enum-told .given .1))
+
+-- src/lib.rt:139:1
+same-length-2 : tie.Need-same-length-2
+same-length-2 c = search needs
+
+-- src/lib.rt:139:1
+returns-2 : tie.Need-returns-2
+returns-2 c = let a = c .before .before .before .before .before .args in
+    c .before .add-sale .ensures ∙ sym (ap (λ (edition : Edition). transactionAdded edition (weightIn (now (a .weights)) (now (a .real)) (a .locations)) (a .transaction) (now (a .totals))) (c .before .before .before .enum-told2 .given .1))
 
 pub add-transaction-spec : {M : Type 1} → statement M
 add-transaction-spec =
     tie.close
     (tie.spec
-    weight-of-requires
-    weight-of-requires-2
-    path-part-requires
-    cast-add-amount
-    add-amount-requires
+    enum-told
+    add-path-requires
+    enum-told-2
+    add-sale-requires
     same-length
-    returns)
+    returns
+    same-length-2
+    returns-2)

@@ -17,7 +17,7 @@ use Rattle.wunzelihle.proofs.wz_find_list_cause.Statement.{statement}
 use Rattle.wunzelihle.proofs.wz_find_list_cause.Tie as tie
 
 abbrev given : tie.Start → Content
-given s = let a = s .args in content (a .participants) (a .locations) (a .rows) (a .transactions) (a .prices .now) (a .row-list .now) (a .transaction-list .now)
+given s = let a = s .args in content (a .participants) (a .locations) (a .rows) (a .transactions) (a .edition) (a .prices .now) (a .row-list .now) (a .transaction-list .now)
 
 returns : tie.Need-returns
 returns c = let s = c .before .before .before .before .before in
@@ -38,7 +38,7 @@ returns-2 c = let f = c .before .before .before .before in
     let s = f .before .before .before .before .before .before in
     let a = s .args in
     let n = length (a .cause .now) in
-    let same = content-same {ps = a .prices .now} {rs = a .row-list .now} {ts = a .transaction-list .now} (toZ-ofZ (s .fits .participants)) (toZ-ofZ (s .fits .locations)) (toZ-ofZ (s .fits .rows)) (toZ-ofZ (s .fits .transactions)) in
+    let same = content-same {ps = a .prices .now} {rs = a .row-list .now} {ts = a .transaction-list .now} (toZ-ofZ (s .fits .participants)) (toZ-ofZ (s .fits .locations)) (toZ-ofZ (s .fits .rows)) (toZ-ofZ (s .fits .transactions)) (toZ-ofZ (s .fits .edition)) in
     done (causeRefusal n) (encoded (causeNumbers (givenCause (given s)))) (a .cause .now) _ (sym (ap (λ (t : Bool). unless t 1 0) (eq-eqb n 56 (f .before .if1 .left)))) (c .before .before .put-cause .ensures ∙ ap (λ (x : Cause). encoded (causeNumbers x)) (f .list-cause .ensures ∙ ap givenCause same))
 
 pub wz-find-list-cause-spec : {M : Type 1} → statement M

@@ -18,7 +18,7 @@ returns : tie.Need-returns
 returns c = let w = c .before .before .write-file in
     let s = c .before .before .before .before .before .before .before .before in
     let a = s .args in
-    let same = content-same {ps = a .prices .now} {rs = a .row-list .now} {ts = a .transaction-list .now} (toZ-ofZ (s .fits .participants)) (toZ-ofZ (s .fits .locations)) (toZ-ofZ (s .fits .rows)) (toZ-ofZ (s .fits .transactions)) in
+    let same = content-same {ps = a .prices .now} {rs = a .row-list .now} {ts = a .transaction-list .now} (toZ-ofZ (s .fits .participants)) (toZ-ofZ (s .fits .locations)) (toZ-ofZ (s .fits .rows)) (toZ-ofZ (s .fits .transactions)) (toZ-ofZ (s .fits .edition)) in
     (w .ensures .0 ∙ ap (λ (g : Content). writeRefusal g (length (a .file .now))) same, w .ensures .1 ∙ ap (λ (g : Content). writeOutcome g (a .file .now)) same)
 
 pub wz-write-file-spec : {M : Type 1} → statement M

@@ -34,8 +34,8 @@ pub fn line(turn: usize, random: &mut Random) -> String {
 
 /// The file of a turn.
 pub fn draw(turn: usize, random: &mut Random) -> Vec<u8> {
-    let round = turn / 12;
-    match turn % 12 {
+    let round = turn / 13;
+    match turn % 13 {
         0 | 1 => hour::draw(2 * round + turn % 2, random).0,
         2 => check::draw(round, random),
         3 => read::one_bit(round, random).0,
@@ -43,6 +43,7 @@ pub fn draw(turn: usize, random: &mut Random) -> Vec<u8> {
         5 => hour::many_entries(random),
         6 => outcome(round, random).bytes(),
         n @ 7..=9 => hour::file_with_any_two_faults(3 * round + n - 7, random),
+        10 => hour::one_transaction(round, random).bytes(),
         _ => at_limit(2 * round + turn % 2, random),
     }
 }
@@ -97,7 +98,10 @@ macro_rules! entry {
 }
 
 const LIMITS: &[Limit] = &[
-    |case, beyond, _| case.file.spare = beyond,
+    |case, beyond, random| {
+        hour::give_sellers(case, random);
+        case.file.told_edition = Some(1 + beyond);
+    },
     |case, beyond, _| case.file.told_rows = Some(2_048 + beyond),
     |case, beyond, _| case.file.told_transactions = Some(256 + beyond),
     |case, beyond, _| {
@@ -172,14 +176,25 @@ const LIMITS: &[Limit] = &[
         entry!(case.transactions, random).sink = last + beyond as usize;
     },
     |case, beyond, random| entry!(case.transactions, random).kw = MOST_KW + beyond,
+    |case, beyond, random| {
+        hour::give_sellers(case, random);
+        let last = case.file.participants - 1;
+        entry!(case.transactions, random).seller = Some(last + beyond as usize);
+    },
+    |case, beyond, random| {
+        hour::give_sellers(case, random);
+        let at = place(case.file.transactions.len(), random);
+        let spare = random.pick(&[beyond, 3 * beyond.min(1)]);
+        case.file.transaction_spares.push((at, spare));
+    },
 ];
 
 #[cfg(test)]
-mod tests {
+pub mod tests {
     use super::*;
     use crate::bits::BitReader;
     use crate::cause::{self, cause_of_file, PRICE, ROW, TRANSACTION};
-    use crate::exercise::{self, read_header};
+    use crate::exercise::{self, read_header, Edition};
     use crate::hour::{charged, settle_hour};
     use crate::split::MOST_SHARE;
     use std::collections::{BTreeMap, BTreeSet};
@@ -221,16 +236,29 @@ mod tests {
             PRICE => (5 + 3 * number, &[24]),
             ROW => (header.rows_start() + 6 * number, &[1, 3, 4, 6, 6, 25, 3]),
             TRANSACTION => (
-                header.transactions_start() + 6 * number,
-                &[1, 4, 6, 6, 6, 25],
+                header.transactions_start() + header.edition.transaction_bytes() * number,
+                match header.edition {
+                    Edition::PathOnly => &[1, 4, 6, 6, 6, 25],
+                    Edition::WithSeller => &[1, 4, 6, 6, 6, 6, 25, 2],
+                },
             ),
             _ => panic!("part {part}"),
         };
-        let field = field as usize;
+        let field = turn_of(header.edition, part, field) as usize;
         (
             8 * start + widths[..field].iter().sum::<usize>(),
             widths[field],
         )
+    }
+
+    /// Where a field stands among those of its part, and is tested: a seller
+    /// behind the participant.
+    pub fn turn_of(edition: Edition, part: i64, field: i64) -> i64 {
+        match (part, edition, field) {
+            (TRANSACTION, Edition::WithSeller, 6) => 3,
+            (TRANSACTION, Edition::WithSeller, 3..=5) => field + 1,
+            _ => field,
+        }
     }
 
     fn found_in(file: &[u8], (start, width): (usize, usize)) -> i64 {
@@ -263,14 +291,16 @@ mod tests {
         let mut mended = 0;
         for turn in 0..4_000 {
             let mut file = draw(turn, &mut random);
-            let mut before = (0, 0, 0);
+            let mut before = (0, 0, -1);
             loop {
                 let [_, part, number, field, found, least, most] = cause_of_file(&file);
                 if ![PRICE, ROW, TRANSACTION].contains(&part) {
                     break;
                 }
-                assert!((part, number, field) > before, "turn {turn}");
-                before = (part, number, field);
+                let edition = read_header(&file).unwrap().edition;
+                let place = (part, number, turn_of(edition, part, field));
+                assert!(place > before, "turn {turn}");
+                before = place;
                 let bits = bits_of(&file, part, number, field);
                 assert_eq!(found_in(&file, bits), found, "turn {turn}");
                 let right = random.pick(&[least, most]);
@@ -305,11 +335,11 @@ mod tests {
                 near.insert((part, field, "one of several"));
             }
         }
-        // Accepted; the length; three of the header; a price; six of a row; five
-        // of a transaction; the surplus beyond, and alone; a share.
-        assert_eq!(seen.len(), 1 + 1 + 3 + 1 + 6 + 5 + 2 + 1, "{seen:#?}");
+        // Accepted; the length; three of the header; a price; six of a row;
+        // seven of a transaction; the surplus beyond, and alone; a share.
+        assert_eq!(seen.len(), 1 + 1 + 3 + 1 + 6 + 7 + 2 + 1, "{seen:#?}");
         assert!(seen.values().all(|&times| times > 20), "{seen:#?}");
-        for (part, fields) in [(PRICE, 0..=0), (ROW, 1..=6), (TRANSACTION, 1..=5)] {
+        for (part, fields) in [(PRICE, 0..=0), (ROW, 1..=6), (TRANSACTION, 1..=7)] {
             for field in fields {
                 for name in ["above", "first", "later"] {
                     assert!(near.contains(&(part, field, name)), "{part} {field} {name}");

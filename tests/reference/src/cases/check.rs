@@ -29,20 +29,31 @@ pub fn draw(turn: usize, random: &mut Random) -> Vec<u8> {
 /// A sound file as it is, a byte short or long, or with one spare bit set.
 fn near(round: usize, random: &mut Random) -> Vec<u8> {
     let mut file = hour::faultless(random).bytes();
-    let change = round % 12;
+    let change = round % 14;
     match change {
         0 => {}
         1 => {
             file.pop();
         }
         2 => file.push(0),
-        3..=8 => file[HEADER_BYTES - 1] |= 1 << (change - 3),
-        _ => {
+        // The other edition, whose length is another, or none.
+        3..=8 => file[HEADER_BYTES - 1] ^= 1 << (change - 3),
+        9..=11 => {
             let row = any_row(&mut file, random);
             row[ROW_BYTES - 1] |= 1 << (change - 9);
         }
+        _ => return with_spare_bit(1 << (change - 12), random),
     }
     file
+}
+
+/// A file with sellers, sound but for a spare bit of a transaction.
+fn with_spare_bit(spare: i64, random: &mut Random) -> Vec<u8> {
+    let mut case = hour::faultless(random);
+    hour::give_sellers(&mut case, random);
+    let at = random.index(case.file.transactions.len());
+    case.file.transaction_spares.push((at, spare));
+    case.bytes()
 }
 
 /// Any bytes of any length, or a row of them in a sound file.
@@ -74,7 +85,7 @@ mod tests {
         let mut random = Random::new(1);
         for round in 0..240 {
             let file = near(round, &mut random);
-            let refusal = if round % 12 == 0 { 0 } else { 9 };
+            let refusal = if round % 14 == 0 { 0 } else { 9 };
             assert_eq!(check(&file), refusal);
         }
     }

@@ -44,7 +44,7 @@ pub fn draw_file(turn: usize, random: &mut Random) -> Vec<u8> {
 fn any_header(random: &mut Random) -> Vec<u8> {
     let mut file = random.bytes(5);
     if random.once_in(2) {
-        file[4] &= 0xc0;
+        file[4] &= 0xc1;
     }
     if random.once_in(2) {
         // Few rows and transactions.
@@ -54,7 +54,8 @@ fn any_header(random: &mut Random) -> Vec<u8> {
     let locations = usize::from(file[0] & 3) << 4 | usize::from(file[1] >> 4);
     let rows = usize::from(file[1] & 15) << 8 | usize::from(file[2]);
     let transactions = usize::from(file[3]) << 2 | usize::from(file[4] >> 6);
-    let length = 5 + 78 * (locations + 1) + 6 * (rows + transactions);
+    let each = random.pick(&[6 + usize::from(file[4] & 1), 6, 7]);
+    let length = 5 + 78 * (locations + 1) + 6 * rows + each * transactions;
     file.resize(length + random.pick(&[0, 0, 0, 0, 1, 6]), 0);
     if random.once_in(6) {
         file.pop();
@@ -114,7 +115,7 @@ mod tests {
         let mut seen = BTreeSet::new();
         for turn in 0..6_000 {
             let (file, _) = draw(turn, &mut random);
-            let mut list = vec![0; 32];
+            let mut list = vec![0; 8 * COUNTS];
             if counts(&file, &mut list) == 0 {
                 let numbers = crate::numbers::read(&list).unwrap();
                 seen.extend((0..COUNTS).map(|at| (at, numbers[at])));
@@ -129,6 +130,8 @@ mod tests {
             (2, 2_048),
             (3, 0),
             (3, 256),
+            (4, 0),
+            (4, 1),
         ] {
             assert!(seen.contains(&limit), "{limit:?}");
         }

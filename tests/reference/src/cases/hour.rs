@@ -3,7 +3,9 @@
 
 use super::faults::pair;
 use super::file::File;
-use crate::exercise::{DAY_AHEAD, EXPORT, GENERATION, INTERVALS, LOAD, MOST_PRICE, REAL_TIME};
+use crate::exercise::{
+    Edition, DAY_AHEAD, EXPORT, GENERATION, INTERVALS, LOAD, MOST_PRICE, REAL_TIME,
+};
 use crate::hour::settle_hour;
 use crate::numbers::hex;
 use crate::random::Random;
@@ -60,17 +62,17 @@ fn fields(lists: &[Vec<u8>; 4]) -> String {
 
 /// A file, and the lengths of the output lists in bytes.
 pub fn draw(turn: usize, random: &mut Random) -> (Vec<u8>, [usize; 4]) {
-    let round = turn / 24;
+    let round = turn / 26;
     if turn % 200 == 199 {
         let round = turn / 200;
         let case = if round % 2 == 1 {
             large_with_fault(round / 2, random)
         } else {
-            Case::new(large(round / 2 % 6, random))
+            Case::new(large(round / 2, random))
         };
         return (case.bytes(), case.lists);
     }
-    let case = match turn % 24 {
+    let case = match turn % 26 {
         0..=4 => Case::new(small(random)),
         5 => Case::new(medium(random)),
         6 => Case::new(day_ahead_only(round, random)),
@@ -83,7 +85,8 @@ pub fn draw(turn: usize, random: &mut Random) -> (Vec<u8>, [usize; 4]) {
         12 => Case::new(surplus_limit(round, random)),
         13 => Case::new(share_limit(round, random)),
         14 => Case::new(no_shares(round, random)),
-        15 | 16 => Case::new(paths(random)),
+        15 => Case::new(paths(Edition::PathOnly, random)),
+        16 | 24 => Case::new(paths(Edition::WithSeller, random)),
         17 | 18 => {
             let fault = 2 * round + turn % 2;
             spoilt(&[&FAULTS[fault % FAULTS.len()]], random)
@@ -99,7 +102,8 @@ pub fn draw(turn: usize, random: &mut Random) -> (Vec<u8>, [usize; 4]) {
             spoilt(&faults, random)
         }
         21 => one_entry(random),
-        22 => return damaged(random),
+        22 => other_edition(random),
+        23 => return damaged(random),
         _ => return crumbs(round, random),
     };
     (case.bytes(), case.lists)
@@ -164,6 +168,15 @@ impl Sizes {
             loss,
         }
     }
+
+    /// Those of an hour with as many rows as there may be.
+    fn large(random: &mut Random) -> Self {
+        Sizes {
+            kw: random.pick(&[1_000, 200_000]),
+            congestion: MOST_PRICE,
+            loss: random.pick(&[500, 9_000]),
+        }
+    }
 }
 
 fn price(most: i64, random: &mut Random) -> i64 {
@@ -224,9 +237,28 @@ fn add_transaction(file: &mut File, most: i64, random: &mut Random) {
         sink,
         kw(most, random),
     );
+    name_sellers(file, random);
+}
+
+fn any_edition(random: &mut Random) -> Edition {
+    random.pick(&Edition::ALL)
+}
+
+/// Gives transactions of a file sellers, where its edition has them and they
+/// have none; once in four the buyer is the seller.
+fn name_sellers(file: &mut File, random: &mut Random) {
+    if file.edition == Edition::PathOnly {
+        return;
+    }
+    for transaction in &mut file.transactions {
+        let other = random.index(file.participants);
+        let seller = random.pick(&[transaction.participant, other, other, other]);
+        transaction.seller.get_or_insert(seller);
+    }
 }
 
 fn noise(
+    edition: Edition,
     participants: usize,
     locations: usize,
     rows: usize,
@@ -234,7 +266,7 @@ fn noise(
     sizes: &Sizes,
     random: &mut Random,
 ) -> File {
-    let mut file = File::new(participants, locations);
+    let mut file = File::of(edition, participants, locations);
     price_all(&mut file, sizes, random);
     for _ in 0..rows {
         add_row(&mut file, sizes.kw, random);
@@ -245,11 +277,32 @@ fn noise(
     file
 }
 
+/// Noise of either edition.
+fn any_noise(
+    participants: usize,
+    locations: usize,
+    rows: usize,
+    transactions: usize,
+    sizes: &Sizes,
+    random: &mut Random,
+) -> File {
+    let edition = any_edition(random);
+    noise(
+        edition,
+        participants,
+        locations,
+        rows,
+        transactions,
+        sizes,
+        random,
+    )
+}
+
 pub fn small(random: &mut Random) -> File {
     let sizes = Sizes::any(random);
     let (participants, locations) = (1 + random.index(5), 1 + random.index(4));
     let (rows, transactions) = (random.index(16), random.index(5));
-    noise(participants, locations, rows, transactions, &sizes, random)
+    any_noise(participants, locations, rows, transactions, &sizes, random)
 }
 
 pub fn medium(random: &mut Random) -> File {
@@ -260,62 +313,71 @@ pub fn medium(random: &mut Random) -> File {
     };
     let (participants, locations) = (1 + random.index(64), 1 + random.index(16));
     let (rows, transactions) = (random.index(120), random.index(40));
-    noise(participants, locations, rows, transactions, &sizes, random)
+    any_noise(participants, locations, rows, transactions, &sizes, random)
 }
 
-fn large(variant: usize, random: &mut Random) -> File {
-    let sizes = Sizes {
-        kw: random.pick(&[1_000, 200_000]),
-        congestion: MOST_PRICE,
-        loss: random.pick(&[500, 9_000]),
-    };
-    match variant {
-        0 => noise(64, 64, 2_048, 256, &sizes, random),
+/// The largest hours by kinds, first of one edition and then of the other.
+fn large(round: usize, random: &mut Random) -> File {
+    let edition = Edition::ALL[round / 6 % 2];
+    let sizes = Sizes::large(random);
+    match round % 6 {
+        0 => noise(edition, 64, 64, 2_048, 256, &sizes, random),
         1 => {
             let participants = random.pick(&[1, 2, 64]);
-            noise(participants, 1, 2_048, 0, &sizes, random)
+            noise(edition, participants, 1, 2_048, 0, &sizes, random)
         }
         2 => {
             // At one of several locations.
             let location = random.index(5);
-            let mut file = noise(random.pick(&[1, 2, 64]), 5, 2_048, 9, &sizes, random);
+            let participants = random.pick(&[1, 2, 64]);
+            let mut file = noise(edition, participants, 5, 2_048, 9, &sizes, random);
             for row in &mut file.rows {
                 row.location = location;
             }
             file
         }
-        3 => largest_charge(random),
+        3 => largest_charge(edition, random),
         4 => mirrored(64, 64, 2_048, 256, random),
         _ => {
             let (participants, locations) = (1 + random.index(64), 1 + random.index(64));
             let (rows, transactions) = (random.index(2_049), random.index(257));
-            noise(participants, locations, rows, transactions, &sizes, random)
+            any_noise(participants, locations, rows, transactions, &sizes, random)
         }
     }
 }
 
-/// The longest file, wrong at its end only.
+/// The longest file of either edition, wrong at its end only.
 fn large_with_fault(round: usize, random: &mut Random) -> Case {
-    let mut case = Case::new(large(0, random));
+    let edition = Edition::ALL[round % 2];
+    let sizes = Sizes::large(random);
+    // One participant less, so that there is one beyond the last.
+    let mut case = Case::new(noise(edition, 63, 64, 2_048, 256, &sizes, random));
     let file = &mut case.file;
-    match round % 8 {
+    match round % 11 {
         0 => case.excess = -1,
-        1 => case.excess = 1,
+        1 => file.transaction_spares.push((255, 1)),
         2 => file.rows[2_047].kind = 6,
         3 => file.row_spares.push((2_047, 1)),
         4 => file.transactions[255].kw = MOST_KW + 1,
         5 => add_row(file, MOST_KW, random),
         6 => add_transaction(file, MOST_KW, random),
+        7 => case.excess = 1,
+        8 => file.told_edition = Some(2),
+        9 => file.transactions[255].seller = Some(63),
         _ => *file.loss.last_mut().unwrap() = -MOST_PRICE - 1,
     }
     case
 }
 
 /// Every row and transaction adds to one participant's congestion as much as
-/// one can, of either sign.
-fn largest_charge(random: &mut Random) -> File {
+/// one can, of either sign; of sales those that another buys.
+fn largest_charge(edition: Edition, random: &mut Random) -> File {
     let sign = random.pick(&[1, -1]);
-    let mut file = File::new(1 + random.index(2), 2);
+    let participants = match edition {
+        Edition::PathOnly => 1 + random.index(2),
+        Edition::WithSeller => 2,
+    };
+    let mut file = File::of(edition, participants, 2);
     for (at, price) in file.congestion.iter_mut().enumerate() {
         let day_ahead = at < 2;
         let first = at % 2 == 0;
@@ -326,7 +388,10 @@ fn largest_charge(random: &mut Random) -> File {
         file.row(DAY_AHEAD, kind, 0, 0, location, MOST_KW);
     }
     for _ in 0..256 {
-        file.transaction(DAY_AHEAD, 0, 0, 1, 0, MOST_KW);
+        match edition {
+            Edition::PathOnly => file.transaction(DAY_AHEAD, 0, 0, 1, 0, MOST_KW),
+            Edition::WithSeller => file.sale(DAY_AHEAD, 0, 1, 0, 0, 1, MOST_KW),
+        }
     }
     file
 }
@@ -356,7 +421,8 @@ fn negative_surplus(random: &mut Random) -> File {
         loss: random.pick(&[3, 500, 9_000]),
     };
     let (participants, rows) = (1 + random.index(7), 3 + random.index(20));
-    let mut file = noise(participants, 2, rows, 0, &sizes, random);
+    let transactions = random.pick(&[0, 0, 3]);
+    let mut file = any_noise(participants, 2, rows, transactions, &sizes, random);
     for price in &mut file.loss {
         *price = -price.abs();
     }
@@ -395,7 +461,7 @@ fn ties(random: &mut Random) -> File {
 fn single_participant(random: &mut Random) -> File {
     let sizes = Sizes::any(random);
     let (locations, rows) = (1 + random.index(6), 1 + random.index(20));
-    noise(1, locations, rows, random.index(6), &sizes, random)
+    any_noise(1, locations, rows, random.index(6), &sizes, random)
 }
 
 /// No row, and with the fewest locations the shortest file there is.
@@ -403,7 +469,7 @@ fn without_rows(round: usize, random: &mut Random) -> File {
     let sizes = Sizes::any(random);
     let (participants, locations) = [(1, 1), (64, 1), (1, 64), (64, 64)][round % 4];
     let transactions = [0, 1, 256][round / 4 % 3];
-    noise(participants, locations, 0, transactions, &sizes, random)
+    any_noise(participants, locations, 0, transactions, &sizes, random)
 }
 
 /// Prices and kW at their limits, and to every row or transaction but a few its
@@ -420,7 +486,7 @@ fn mirrored(
         congestion: MOST_PRICE,
         loss: MOST_PRICE,
     };
-    let mut file = noise(participants, locations, 0, 0, &sizes, random);
+    let mut file = any_noise(participants, locations, 0, 0, &sizes, random);
     // Shares stay below their limit.
     let most = MOST_KW.min(4_000_000_000 / rows as i64);
     while file.rows.len() + 4 < rows {
@@ -504,7 +570,7 @@ pub fn surplus_limit(round: usize, random: &mut Random) -> File {
 /// Shares of 4,000,000,000 kW, or one more, with a surplus and without.
 pub fn share_limit(round: usize, random: &mut Random) -> File {
     let participants = 1 + random.index(3);
-    let mut file = File::new(participants, 2);
+    let mut file = File::of(any_edition(random), participants, 2);
     let many = 1 + random.index(participants);
     for participant in 0..many {
         for _ in 0..200 {
@@ -524,6 +590,7 @@ pub fn share_limit(round: usize, random: &mut Random) -> File {
         file.row(DAY_AHEAD, 4, 0, participant, 0, MOST_KW);
         file.row(REAL_TIME, GENERATION, 3, participant, 0, MOST_KW);
         file.transaction(REAL_TIME, 0, participant, 0, 1, MOST_KW);
+        name_sellers(&mut file, random);
     }
     if round % 2 == 1 {
         let kind = random.pick(&[LOAD, EXPORT]);
@@ -564,7 +631,10 @@ pub fn no_shares(round: usize, random: &mut Random) -> File {
                 file.row(DAY_AHEAD, 4, 0, buyer, row.location, row.kw);
                 file.row(DAY_AHEAD, 5, 0, seller, row.location, row.kw);
             }
-            file.transactions.clear();
+            // Sales cancel by themselves.
+            if file.edition == Edition::PathOnly {
+                file.transactions.clear();
+            }
         }
         _ => {}
     }
@@ -573,14 +643,15 @@ pub fn no_shares(round: usize, random: &mut Random) -> File {
 
 /// Transactions over few paths, so that the markets meet: with excess,
 /// shortfall, none; both directions; a source that is its sink.
-fn paths(random: &mut Random) -> File {
+fn paths(edition: Edition, random: &mut Random) -> File {
     let sizes = Sizes {
         kw: random.pick(&[1_000, 200_000]),
         congestion: random.pick(&[30_000, MOST_PRICE]),
         loss: random.pick(&[500, 60_000]),
     };
     let participants = 1 + random.index(3);
-    let mut file = noise(participants, 3, random.index(4), 0, &sizes, random);
+    let rows = random.index(4);
+    let mut file = noise(edition, participants, 3, rows, 0, &sizes, random);
     file.row(
         REAL_TIME,
         LOAD,
@@ -599,6 +670,7 @@ fn paths(random: &mut Random) -> File {
         let kw = if equal { same } else { kw(sizes.kw, random) };
         let participant = random.index(participants);
         file.transaction(market, interval, participant, source, sink, kw);
+        name_sellers(&mut file, random);
     }
     if random.once_in(3) {
         // The day-ahead schedule kept in every interval.
@@ -616,15 +688,44 @@ fn paths(random: &mut Random) -> File {
     file
 }
 
+/// An hour that is told as one of the other edition and is as long as that one
+/// would be. What its transactions then are is right by chance.
+fn other_edition(random: &mut Random) -> Case {
+    let sizes = Sizes {
+        kw: random.pick(&[1_000, 200_000, MOST_KW]),
+        congestion: 30_000,
+        loss: 500,
+    };
+    let (participants, locations) = (1 + random.index(5), 1 + random.index(5));
+    let transactions = random.pick(&[0, 1, 1, 1, 2, 3]);
+    let mut case = Case::new(any_noise(
+        participants,
+        locations,
+        2,
+        transactions,
+        &sizes,
+        random,
+    ));
+    let other = case.file.edition.other();
+    case.file.told_edition = Some(other.number());
+    case.excess = match other {
+        Edition::PathOnly => -(transactions as i64),
+        Edition::WithSeller => transactions as i64,
+    };
+    case
+}
+
 /// An accepted hour with rows and transactions enough to spoil.
 pub fn faultless(random: &mut Random) -> Case {
     let (participants, locations) = (2 + random.index(4), 2 + random.index(3));
     let (rows, transactions) = (3 + random.index(6), 2 + random.index(4));
-    accepted(participants, locations, rows, transactions, random)
+    let edition = any_edition(random);
+    accepted(edition, participants, locations, rows, transactions, random)
 }
 
-/// An accepted hour of a size.
+/// An accepted hour of an edition and a size.
 pub fn accepted(
+    edition: Edition,
     participants: usize,
     locations: usize,
     rows: usize,
@@ -637,8 +738,15 @@ pub fn accepted(
         loss: 500,
     };
     loop {
-        let file = noise(participants, locations, rows, transactions, &sizes, random);
-        let case = Case::new(file);
+        let case = Case::new(noise(
+            edition,
+            participants,
+            locations,
+            rows,
+            transactions,
+            &sizes,
+            random,
+        ));
         if settled(&case) == 0 {
             return case;
         }
@@ -655,7 +763,7 @@ fn settled(case: &Case) -> u32 {
 pub type Fault = (usize, u32, fn(&mut Case, &mut Random));
 
 const UNDER_FIVE: usize = 0;
-const HEADER_SPARE: usize = 1;
+const EDITION: usize = 1;
 const COUNTS: usize = 2;
 const LENGTH: usize = 3;
 pub const LISTS: usize = 4;
@@ -670,11 +778,14 @@ const FAULTS: &[Fault] = &[
     (UNDER_FIVE, 9, |case, random| {
         case.stub = Some(random.index(5));
     }),
-    (HEADER_SPARE, 9, |case, random| {
-        case.file.spare = 1 << random.index(6);
+    (EDITION, 9, |case, random| {
+        // One bit more than a right one has.
+        let right = case.file.edition.number();
+        case.file.told_edition = Some(right | 2 << random.index(5));
     }),
-    (HEADER_SPARE, 9, |case, random| {
-        case.file.spare = random.between(1, 63);
+    (EDITION, 9, |case, random| {
+        let any = random.between(2, 63);
+        case.file.told_edition = Some(random.pick(&[2, any, 63]));
     }),
     (COUNTS, 1, |case, random| {
         case.file.told_rows = Some(random.pick(&[2_049, 2_049, 2_050, 4_095]));
@@ -711,6 +822,11 @@ const FAULTS: &[Fault] = &[
         case.file
             .told_transactions
             .get_or_insert(transactions + more);
+    }),
+    (LENGTH, 9, |case, _| {
+        // The other edition, unless it is wrong already.
+        let other = case.file.edition.other().number();
+        case.file.told_edition.get_or_insert(other);
     }),
     (LENGTH, 9, |case, _| {
         // The header alone.
@@ -786,6 +902,12 @@ const FAULTS: &[Fault] = &[
         case.file.transactions[at].participant = participant;
     }),
     (TRANSACTIONS, 3, |case, random| {
+        give_sellers(case, random);
+        let at = random.index(case.file.transactions.len());
+        let seller = identity_beyond(case.file.participants, random);
+        case.file.transactions[at].seller = Some(seller);
+    }),
+    (TRANSACTIONS, 3, |case, random| {
         let at = random.index(case.file.transactions.len());
         case.file.transactions[at].source = identity_beyond(case.file.locations, random);
     }),
@@ -796,6 +918,12 @@ const FAULTS: &[Fault] = &[
     (TRANSACTIONS, 2, |case, random| {
         let at = random.index(case.file.transactions.len());
         case.file.transactions[at].kw = kw_beyond(random);
+    }),
+    (TRANSACTIONS, 9, |case, random| {
+        give_sellers(case, random);
+        let at = random.index(case.file.transactions.len());
+        let spare = random.pick(&[1, 2, 3]);
+        case.file.transaction_spares.push((at, spare));
     }),
     (LIMITS, 10, |case, random| {
         let kind = 4 + random.index(2);
@@ -827,6 +955,20 @@ const FAULTS: &[Fault] = &[
         }
     }),
 ];
+
+/// Makes all transactions sales. Where the other edition was told, it is told
+/// still.
+pub fn give_sellers(case: &mut Case, random: &mut Random) {
+    let file = &mut case.file;
+    if file.edition == Edition::WithSeller {
+        return;
+    }
+    if let Some(edition) = file.told_edition.and_then(Edition::of) {
+        file.told_edition = Some(edition.other().number());
+    }
+    file.edition = Edition::WithSeller;
+    name_sellers(file, random);
+}
 
 /// Takes the loss prices to 0, but for those that are a fault's own.
 fn without_loss(case: &mut Case) {
@@ -871,7 +1013,7 @@ pub fn many_entries(random: &mut Random) -> Vec<u8> {
 /// the same entry.
 pub fn one_entry(random: &mut Random) -> Case {
     let mut case = faultless(random);
-    let stage = random.pick(&[ROWS, ROWS, TRANSACTIONS]);
+    let stage = random.pick(&[ROWS, TRANSACTIONS]);
     let mut faults = faults_of(stage);
     let first = random.pick(&faults);
     faults.retain(|fault| fault.1 != first.1);
@@ -881,6 +1023,18 @@ pub fn one_entry(random: &mut Random) -> Case {
     }
     first.2(&mut case, random);
     random.pick(&faults).2(&mut case, random);
+    case
+}
+
+/// The n-th of all pairs of faults of a transaction, both in the only one.
+pub fn one_transaction(n: usize, random: &mut Random) -> Case {
+    let mut case = faultless(random);
+    case.file.transactions.truncate(1);
+    let faults = faults_of(TRANSACTIONS);
+    let (first, second) = pair(n, faults.len());
+    for fault in [first, second] {
+        faults[fault].2(&mut case, random);
+    }
     case
 }
 
@@ -1057,6 +1211,10 @@ mod tests {
                     || list.real_time.iter().flatten().any(|&p| p == price)
             })
         };
+        let has_sale = |is: &dyn Fn(&exercise::Transaction) -> bool| {
+            let mut sales = hour.transactions.iter().filter(|t| t.seller.is_some());
+            sales.any(is)
+        };
         let place = |at: usize| hour.rows[at].location;
         let one_location = (1..hour.rows.len()).all(|at| place(at) == place(0));
         [
@@ -1091,11 +1249,44 @@ mod tests {
                 "prices at both limits",
                 has_price(MOST_PRICE) && has_price(-MOST_PRICE),
             ),
-            ("the longest file", file.len() == 18_821),
-            ("the shortest file", file.len() == 83),
+            ("the longest file", file.len() == 19_077),
+            (
+                "the longest file of paths",
+                file.len() == 18_821 && header.edition == Edition::PathOnly,
+            ),
+            (
+                "the shortest file",
+                file.len() == 83 && header.edition == Edition::PathOnly,
+            ),
+            (
+                "the shortest file with sellers",
+                file.len() == 83 && header.edition == Edition::WithSeller,
+            ),
             (
                 "transactions alone",
                 hour.rows.is_empty() && congestion.iter().any(|&charge| charge != 0),
+            ),
+            (
+                "a sale day-ahead",
+                has_sale(&|sale| sale.market == DAY_AHEAD && sale.kw > 0),
+            ),
+            (
+                "a sale in real time",
+                has_sale(&|sale| sale.market == REAL_TIME && sale.kw > 0),
+            ),
+            (
+                "a buyer who sells",
+                has_sale(&|sale| sale.seller == Some(sale.participant)),
+            ),
+            (
+                "a sale at one location",
+                has_sale(&|sale| sale.source == sale.sink && sale.kw > 0),
+            ),
+            (
+                "a seller without shares",
+                has_sale(&|sale| {
+                    sale.market == REAL_TIME && sale.kw > 0 && shares[sale.seller.unwrap()] == 0
+                }) && surplus != 0,
             ),
             ("the largest surplus", surplus == 1_000_000_000),
             ("the least surplus", surplus == -1_000_000_000),
@@ -1146,8 +1337,8 @@ mod tests {
                 *seen.entry(shape).or_insert(0) += 1;
             }
         }
-        // Fourteen of an hour, five lengths of each list, and the empty file.
-        assert_eq!(seen.len(), 14 + 5 * 4 + 1, "{seen:#?}");
+        // 21 of an hour, five lengths of each list, and the empty file.
+        assert_eq!(seen.len(), 21 + 5 * 4 + 1, "{seen:#?}");
     }
 
     #[test]

@@ -10,7 +10,7 @@ use crate::numbers::hex;
 use crate::random::Random;
 use crate::write::Given;
 
-pub const HEADER: &str = "participants\tlocations\trows\ttransactions\tprices\trow_list\ttransaction_list\tcause before\tnumber\tcause after";
+pub const HEADER: &str = "participants\tlocations\trows\ttransactions\tedition\tprices\trow_list\ttransaction_list\tcause before\tnumber\tcause after";
 
 /// The case of a turn, as a line.
 pub fn line(turn: usize, random: &mut Random) -> String {
@@ -32,6 +32,7 @@ fn draw(turn: usize, random: &mut Random) -> Given {
     let case = match turn % 4 {
         0 => write::with_two_faults(round, random),
         1 if round % 3 == 0 => write::many_entries(random),
+        1 if round % 3 == 1 => write::one_transaction(round / 3, random),
         _ => write::draw(turn - turn / 4, random),
     };
     case.given()
@@ -40,7 +41,9 @@ fn draw(turn: usize, random: &mut Random) -> Given {
 #[cfg(test)]
 mod tests {
     use super::*;
+    use crate::cases::cause::tests::turn_of;
     use crate::cause::{cause_of_lists, LIST, PRICE, ROW, TRANSACTION};
+    use crate::exercise::Edition;
     use crate::write::write_file;
     use std::collections::{BTreeMap, BTreeSet};
 
@@ -69,18 +72,23 @@ mod tests {
         let mut mended = 0;
         for turn in 0..4_000 {
             let mut given = draw(turn, &mut random);
-            let mut before = (0, 0, 0);
+            let mut before = (0, 0, -1);
             loop {
                 let [_, part, number, field, found, least, most] = cause_of_lists(&given);
+                let edition = Edition::of(given.edition);
                 let (list, per) = match part {
                     PRICE => (&mut given.prices, 1),
                     ROW => (&mut given.row_list, 6),
-                    TRANSACTION => (&mut given.transaction_list, 6),
+                    TRANSACTION => (
+                        &mut given.transaction_list,
+                        edition.unwrap().transaction_numbers() as i64,
+                    ),
                     _ => break,
                 };
-                assert!((part, number, field) > before, "turn {turn}");
-                before = (part, number, field);
-                let at = 8 * (per * number + field) as usize;
+                let place = turn_of(edition.unwrap(), part, field);
+                assert!((part, number, place) > before, "turn {turn}");
+                before = (part, number, place);
+                let at = 8 * (per * number + place) as usize;
                 let eight = &mut list[at..at + 8];
                 assert_eq!(eight, found.to_le_bytes(), "turn {turn}");
                 eight.copy_from_slice(&random.pick(&[least, most]).to_le_bytes());
@@ -111,9 +119,9 @@ mod tests {
             let sides = sides.into_iter().filter(|side| side.1);
             near.extend(sides.map(|side| (part, field, side.0)));
         }
-        // Accepted; four counts; three lists; a price; six of a row; six of a
-        // transaction.
-        assert_eq!(seen.len(), 1 + 4 + 3 + 1 + 6 + 6, "{seen:#?}");
+        // Accepted; four counts and the edition; three lists; a price; six of a
+        // row; seven of a transaction.
+        assert_eq!(seen.len(), 1 + 5 + 3 + 1 + 6 + 7, "{seen:#?}");
         assert!(seen.values().all(|&times| times > 20), "{seen:#?}");
         for &(part, field) in seen.keys().filter(|key| key.0 != 0) {
             let names: &[&str] = match part {

@@ -89,14 +89,17 @@ pub fn one_bit(round: usize, random: &mut Random) -> Case {
         empty.row(0, 0, 0, 0, 0, 0);
         empty.transaction(0, 0, 0, 0, 0, 0);
     }
+    if round / 4 % 2 == 1 {
+        empty.with_sellers(|| 0);
+    }
     let mut file = empty.bytes();
     let bits = 8 * file.len();
     let lens = lens_of(&read_header(&file).unwrap());
     // Header, prices, and rows and transactions each get their turns.
     let bit = match round % 4 {
-        0 => round / 4 % 40,
+        0 => round / 8 % 40,
         1 => 40 + random.index(bits - 40),
-        _ => bits - 1 - random.index(96 * rows),
+        _ => bits - 1 - random.index(104 * rows),
     };
     file[bit / 8] ^= 0x80 >> (bit % 8);
     (file, lens)
@@ -104,9 +107,10 @@ pub fn one_bit(round: usize, random: &mut Random) -> Case {
 
 /// Lists of a sound file that are too long, too short, ragged or exchanged.
 fn lengths(round: usize, random: &mut Random) -> Case {
-    let (file, mut lens) = sound(random);
+    let file = hour::faultless(random).file;
+    let mut lens = lens_of(&file.header());
     let list = round % 3;
-    match round / 3 % 20 {
+    match round / 3 % 21 {
         0 => lens[list] = 0,
         1 => lens = [0; 3],
         2 => lens.swap(list, (list + 1) % 3),
@@ -114,16 +118,19 @@ fn lengths(round: usize, random: &mut Random) -> Case {
         4 => lens = lens.map(|len| len / 8),
         n @ 5..=11 => lens[list] += n - 4,
         n @ 12..=18 => lens[list] -= n - 11,
+        19 => lens[2] = of_other_edition(lens[2]),
         _ => lens[list] = wrong_len(lens[list], random),
     }
     (file.bytes(), lens)
 }
 
-/// An accepted hour with rows and transactions enough to spoil, and its lists.
-fn sound(random: &mut Random) -> (hour::Case, [usize; 3]) {
-    let case = hour::faultless(random);
-    let lens = lens_of(&read_header(&case.bytes()).unwrap());
-    (case, lens)
+/// As many transactions with a seller more, or less, each.
+fn of_other_edition(len: usize) -> usize {
+    if len % 56 == 0 {
+        len / 56 * 48
+    } else {
+        len / 48 * 56
+    }
 }
 
 /// A length that isn't right.
@@ -138,6 +145,7 @@ fn wrong_len(right: usize, random: &mut Random) -> usize {
         right + ragged,
         right + 48,
         right - 48,
+        right + 56,
         right + 208,
         2 * right,
     ];
@@ -161,12 +169,18 @@ fn faults() -> Vec<Fault> {
     of_files.chain(of_lists).collect()
 }
 
+/// The faults of the file come first, as one may change what lists must have.
 fn spoilt(faults: &[Fault], random: &mut Random) -> Case {
-    let (mut case, mut lens) = sound(random);
+    let mut case = hour::faultless(random);
     for fault in faults {
-        match fault.2 {
-            Spoil::File(spoil) => spoil(&mut case, random),
-            Spoil::List(list) => lens[list] = wrong_len(lens[list], random),
+        if let Spoil::File(spoil) = fault.2 {
+            spoil(&mut case, random);
+        }
+    }
+    let mut lens = lens_of(&case.file.header());
+    for fault in faults {
+        if let Spoil::List(list) = fault.2 {
+            lens[list] = wrong_len(lens[list], random);
         }
     }
     (case.bytes(), lens)
@@ -265,6 +279,7 @@ mod tests {
                 locations: header.locations as i64,
                 rows: header.rows as i64,
                 transactions: header.transactions as i64,
+                edition: header.edition.number(),
                 prices,
                 row_list,
                 transaction_list,
@@ -298,9 +313,10 @@ mod tests {
         for turn in 0..6_000 {
             seen.extend(shapes(&draw(turn, &mut random)));
         }
-        // Files as long as can be, as short, with nothing to read; hours that
-        // can't be settled, for either reason; four lengths of each list.
-        assert_eq!(seen.len(), 3 + 2 + 4 * 3, "{seen:#?}");
+        // Files as long as can be, of either edition, as short, with nothing to
+        // read; hours that can't be settled, for either reason; four lengths of
+        // each list.
+        assert_eq!(seen.len(), 4 + 2 + 4 * 3, "{seen:#?}");
     }
 
     fn shapes(case: &Case) -> Vec<String> {
@@ -313,7 +329,11 @@ mod tests {
             let participants = (file[0] >> 2) as usize + 1;
             let settled = settle_hour(file, &mut [(); 4].map(|_| vec![0; 8 * participants]));
             return named(&[
-                ("the longest", file.len() == 18_821),
+                ("the longest", file.len() == 19_077),
+                (
+                    "the longest of paths",
+                    file.len() == 18_821 && file[4] & 1 == 0,
+                ),
                 ("the shortest", file.len() == 83),
                 ("a surplus beyond", settled == 10),
                 ("no shares", settled == 7),

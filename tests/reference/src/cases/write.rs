@@ -4,25 +4,34 @@
 use super::faults::{beyond, pair, wrapped};
 use super::file::File;
 use super::hour;
-use crate::exercise::MOST_PRICE;
+use crate::exercise::{Edition, MOST_PRICE};
 use crate::numbers::{self, hex};
 use crate::random::Random;
-use crate::write::{write_file, Given, FIELDS, STRETCHES};
+use crate::write::{write_file, Given, ROW_NUMBERS, STRETCHES};
 use crate::MOST_KW;
 
-pub const HEADER: &str = "participants\tlocations\trows\ttransactions\tprices\trow_list\ttransaction_list\tfile before\tnumber\tfile after";
+pub const HEADER: &str = "participants\tlocations\trows\ttransactions\tedition\tprices\trow_list\ttransaction_list\tfile before\tnumber\tfile after";
 
-/// Market, kind, interval, participant, location, kW of a row; market,
-/// interval, participant, source, sink, kW of a transaction.
-type Six = [i64; FIELDS];
+/// Market, kind, interval, participant, location, kW of a row.
+type Row = [i64; ROW_NUMBERS];
+
+/// Market, interval, participant, seller, source, sink, kW of a transaction; a
+/// list of paths alone has it without the seller.
+type Sale = [i64; 7];
+
+const SELLER: usize = 3;
 
 #[derive(Clone)]
 pub struct Case {
     /// Participants, locations, rows and transactions as the call is told.
     counts: [i64; 4],
+    /// The edition as the call is told.
+    edition: i64,
     prices: Vec<i64>,
-    rows: Vec<Six>,
-    transactions: Vec<Six>,
+    rows: Vec<Row>,
+    transactions: Vec<Sale>,
+    /// What the list of transactions has of each.
+    listed: Edition,
     /// Bytes more than each of the lists has, or less, at its end.
     excess: [i64; 3],
     /// Bytes more than the file has, or less, in the buffer.
@@ -41,21 +50,58 @@ impl Case {
     /// The hour of a file.
     pub fn new(file: &File) -> Case {
         let rows = file.rows.iter().map(|row| row.numbers()).collect();
-        let transactions = file.transactions.iter().map(|entry| entry.numbers());
+        let sale = |mut numbers: Vec<i64>| -> Sale {
+            if file.edition == Edition::PathOnly {
+                numbers.insert(SELLER, 0);
+            }
+            numbers.try_into().unwrap()
+        };
+        let transactions = file.transactions.iter().map(|entry| sale(entry.numbers()));
         let prices = [file.congestion.clone(), file.loss.clone()].concat();
-        Case::of(file.participants, prices, rows, transactions.collect())
+        let transactions = transactions.collect();
+        Case::of(file.edition, file.participants, prices, rows, transactions)
     }
 
-    fn of(participants: usize, prices: Vec<i64>, rows: Vec<Six>, transactions: Vec<Six>) -> Case {
+    fn of(
+        edition: Edition,
+        participants: usize,
+        prices: Vec<i64>,
+        rows: Vec<Row>,
+        transactions: Vec<Sale>,
+    ) -> Case {
         let locations = prices.len() / STRETCHES;
         let counts = [participants, locations, rows.len(), transactions.len()];
         Case {
             counts: counts.map(|count| count as i64),
+            edition: edition.number(),
             prices,
             rows,
             transactions,
+            listed: edition,
             excess: [0; 3],
             room: 0,
+        }
+    }
+
+    fn transaction_list(&self) -> Vec<i64> {
+        let list = |sale: &Sale| -> Vec<i64> {
+            let mut numbers = sale.to_vec();
+            if self.listed == Edition::PathOnly {
+                numbers.remove(SELLER);
+            }
+            numbers
+        };
+        self.transactions.iter().flat_map(list).collect()
+    }
+
+    /// Lists transactions with their sellers. Where the other edition was told,
+    /// it is told still.
+    fn list_sellers(&mut self) {
+        if self.listed == Edition::PathOnly {
+            self.listed = Edition::WithSeller;
+            if let Some(edition) = Edition::of(self.edition) {
+                self.edition = edition.other().number();
+            }
         }
     }
 
@@ -71,15 +117,17 @@ impl Case {
             locations: self.counts[LOCATIONS],
             rows: self.counts[ROWS],
             transactions: self.counts[TRANSACTIONS],
+            edition: self.edition,
             prices: list(&self.prices, self.excess[0]),
             row_list: list(&self.rows.concat(), self.excess[1]),
-            transaction_list: list(&self.transactions.concat(), self.excess[2]),
+            transaction_list: list(&self.transaction_list(), self.excess[2]),
         }
     }
 
     /// The bytes of the file that these numbers make.
     fn file_len(&self) -> usize {
-        5 + 3 * self.prices.len() + 6 * (self.rows.len() + self.transactions.len())
+        let each = self.listed.transaction_bytes();
+        5 + 3 * self.prices.len() + 6 * self.rows.len() + each * self.transactions.len()
     }
 
     pub fn buffer_len(&self) -> usize {
@@ -121,15 +169,16 @@ pub fn line(turn: usize, random: &mut Random) -> String {
 
 /// An hour in lists as the fields of a case.
 pub fn fields(given: &Given) -> String {
-    let counts = [
+    let numbers = [
         given.participants,
         given.locations,
         given.rows,
         given.transactions,
+        given.edition,
     ];
     let lists = [&given.prices, &given.row_list, &given.transaction_list];
-    let counts = counts.map(|count| count.to_string()).join("\t");
-    format!("{counts}\t{}", lists.map(|list| hex(list)).join("\t"))
+    let numbers = numbers.map(|number| number.to_string()).join("\t");
+    format!("{numbers}\t{}", lists.map(|list| hex(list)).join("\t"))
 }
 
 pub fn draw(turn: usize, random: &mut Random) -> Case {
@@ -141,7 +190,7 @@ pub fn draw(turn: usize, random: &mut Random) -> Case {
 
 type Family = fn(usize, &mut Random) -> Case;
 
-const FAMILIES: [Family; 20] = [
+const FAMILIES: [Family; 22] = [
     small,
     medium,
     wide,
@@ -153,6 +202,8 @@ const FAMILIES: [Family; 20] = [
     powers,
     wraps,
     counts,
+    editions,
+    other_edition,
     lengths,
     buffers,
     noise,
@@ -183,7 +234,11 @@ pub fn wide(_: usize, random: &mut Random) -> Case {
         random.between(0, 12),
         random.between(0, 6),
     ];
-    sound(counts, random).with_room(random.pick(&[0, 0, 0, 1, 300]))
+    sound(any_edition(random), counts, random).with_room(random.pick(&[0, 0, 0, 1, 300]))
+}
+
+fn any_edition(random: &mut Random) -> Edition {
+    random.pick(&Edition::ALL)
 }
 
 /// No row, of few locations or all; with the fewest the shortest file.
@@ -196,10 +251,11 @@ fn without_rows(round: usize, random: &mut Random) -> Case {
     if round / 2 % 2 == 1 {
         locations = random.pick(&[2, 63, 64]);
     }
-    sound([participants, locations, rows, transactions], random)
+    let counts = [participants, locations, rows, transactions];
+    sound(any_edition(random), counts, random)
 }
 
-fn sound(counts: [i64; 4], random: &mut Random) -> Case {
+fn sound(edition: Edition, counts: [i64; 4], random: &mut Random) -> Case {
     let [participants, locations, rows, transactions] = counts;
     let prices = (0..STRETCHES as i64 * locations).map(|_| price(random));
     let prices = prices.collect();
@@ -209,7 +265,7 @@ fn sound(counts: [i64; 4], random: &mut Random) -> Case {
     let transactions = (0..transactions)
         .map(|_| transaction(participants, locations, random))
         .collect();
-    Case::of(participants as usize, prices, rows, transactions)
+    Case::of(edition, participants as usize, prices, rows, transactions)
 }
 
 fn price(random: &mut Random) -> i64 {
@@ -229,7 +285,7 @@ fn kw(random: &mut Random) -> i64 {
     }
 }
 
-fn row(participants: i64, locations: i64, random: &mut Random) -> Six {
+fn row(participants: i64, locations: i64, random: &mut Random) -> Row {
     let (market, kinds, intervals) = random.pick(&[(0, 6, 1), (1, 4, 12)]);
     [
         market,
@@ -241,11 +297,12 @@ fn row(participants: i64, locations: i64, random: &mut Random) -> Six {
     ]
 }
 
-fn transaction(participants: i64, locations: i64, random: &mut Random) -> Six {
+fn transaction(participants: i64, locations: i64, random: &mut Random) -> Sale {
     let (market, intervals) = random.pick(&[(0, 1), (1, 12)]);
     [
         market,
         random.between(0, intervals - 1),
+        random.between(0, participants - 1),
         random.between(0, participants - 1),
         random.between(0, locations - 1),
         random.between(0, locations - 1),
@@ -253,8 +310,8 @@ fn transaction(participants: i64, locations: i64, random: &mut Random) -> Six {
     ]
 }
 
-/// The longest files and others with the most of something; every second is
-/// wrong at its end only.
+/// The longest files and others with the most of something, first of one
+/// edition and then of the other; every second is wrong at its end only.
 pub fn large(round: usize, random: &mut Random) -> Case {
     let counts = [
         LARGEST,
@@ -263,7 +320,8 @@ pub fn large(round: usize, random: &mut Random) -> Case {
         [1, 64, 0, 256],
         [64, 64, 0, 0],
     ];
-    let mut case = sound(counts[round / 2 % counts.len()], random);
+    let edition = Edition::ALL[round / 2 / counts.len() % 2];
+    let mut case = sound(edition, counts[round / 2 % counts.len()], random);
     if round % 2 == 0 {
         case.room = random.pick(&[0, 1, 2_000]);
         return case;
@@ -274,7 +332,7 @@ pub fn large(round: usize, random: &mut Random) -> Case {
         2 if !case.rows.is_empty() => case.rows.last_mut().unwrap()[1] = 6,
         2 => case.excess[1] = 1,
         _ if !case.transactions.is_empty() => {
-            case.transactions.last_mut().unwrap()[5] = MOST_KW + 1
+            case.transactions.last_mut().unwrap()[6] = MOST_KW + 1
         }
         _ => case.excess[2] = 48,
     }
@@ -285,10 +343,9 @@ pub fn large(round: usize, random: &mut Random) -> Case {
 
 /// All numbers are 0 but for one, which has a single bit or is at its limit.
 fn one_number(round: usize, random: &mut Random) -> Case {
-    let mut case = Case::new(&File::new(64, 64));
-    let entry = [0; FIELDS];
-    case.rows = vec![entry; 3];
-    case.transactions = vec![entry; 3];
+    let mut case = Case::new(&File::of(any_edition(random), 64, 64));
+    case.rows = vec![[0; 6]; 3];
+    case.transactions = vec![[0; 7]; 3];
     case.counts = [64, 64, 3, 3];
     let bit = 1 << (round / 3 % 25);
     let at = random.index(3);
@@ -298,7 +355,7 @@ fn one_number(round: usize, random: &mut Random) -> Case {
             case.prices[at] = random.pick(&[bit, -bit, MOST_PRICE, -MOST_PRICE]);
         }
         1 => case.rows[at][random.pick(&[0, 1, 3, 4, 5, 5, 5])] = bit,
-        _ => case.transactions[at][random.pick(&[0, 2, 3, 4, 5, 5])] = bit,
+        _ => case.transactions[at][random.pick(&[0, 2, 3, 4, 5, 6, 6])] = bit,
     }
     case
 }
@@ -311,7 +368,7 @@ fn edges(_: usize, random: &mut Random) -> Case {
         random.between(1, 2),
         random.between(0, 1),
     ];
-    let mut case = sound(counts, random);
+    let mut case = sound(any_edition(random), counts, random);
     let [participants, locations, ..] = counts;
     for entry in &mut case.rows {
         let most = [1, 5, 11, participants - 1, locations - 1, MOST_KW];
@@ -322,6 +379,7 @@ fn edges(_: usize, random: &mut Random) -> Case {
             1,
             11,
             participants - 1,
+            participants - 1,
             locations - 1,
             locations - 1,
             MOST_KW,
@@ -331,7 +389,11 @@ fn edges(_: usize, random: &mut Random) -> Case {
     case
 }
 
-fn move_to_edges(entry: &mut Six, most: Six, random: &mut Random) {
+fn move_to_edges<const NUMBERS: usize>(
+    entry: &mut [i64; NUMBERS],
+    most: [i64; NUMBERS],
+    random: &mut Random,
+) {
     for (number, most) in entry.iter_mut().zip(most) {
         match random.index(24) {
             0 => *number = most + 1,
@@ -343,9 +405,9 @@ fn move_to_edges(entry: &mut Six, most: Six, random: &mut Random) {
     }
 }
 
-/// The kinds of numbers: the counts, a price of congestion and of loss, the
-/// numbers of a row and of a transaction.
-const KINDS: usize = 4 + 2 + 2 * FIELDS;
+/// The kinds of numbers: the counts, the edition, a price of congestion and of
+/// loss, the numbers of a row and of a transaction.
+const KINDS: usize = 4 + 1 + 2 + 6 + 7;
 
 /// Some number of a kind.
 fn some<'a>(case: &'a mut Case, kind: usize, random: &mut Random) -> &'a mut i64 {
@@ -354,9 +416,16 @@ fn some<'a>(case: &'a mut Case, kind: usize, random: &mut Random) -> &'a mut i64
     let transaction = random.index(case.transactions.len());
     match kind {
         0..=3 => &mut case.counts[kind],
-        4 | 5 => &mut case.prices[(kind - 4) * half + random.index(half)],
-        6..=11 => &mut case.rows[row][kind - 6],
-        _ => &mut case.transactions[transaction][kind - 12],
+        4 => &mut case.edition,
+        5 | 6 => &mut case.prices[(kind - 5) * half + random.index(half)],
+        7..=12 => &mut case.rows[row][kind - 7],
+        _ => {
+            let field = kind - 13;
+            if field == SELLER {
+                case.list_sellers();
+            }
+            &mut case.transactions[transaction][field]
+        }
     }
 }
 
@@ -416,7 +485,7 @@ fn counts(round: usize, random: &mut Random) -> Case {
         (1 << 16) + right,
         (1 << 32) + right,
         1 << 40,
-        // Times 48 or 208 this is a multiple of 2^64.
+        // Times 48, 56 or 208 this is a multiple of 2^64.
         (1 << 60) + right,
         (1 << 61) + right,
         (1 << 62) + right,
@@ -429,10 +498,62 @@ fn counts(round: usize, random: &mut Random) -> Case {
         let count = count as usize;
         match at {
             LOCATIONS => case.prices.resize(STRETCHES * count, 0),
-            ROWS => case.rows.resize(count, [0; FIELDS]),
-            TRANSACTIONS => case.transactions.resize(count, [0; FIELDS]),
+            ROWS => case.rows.resize(count, [0; 6]),
+            TRANSACTIONS => case.transactions.resize(count, [0; 7]),
             _ => {}
         }
+    }
+    case
+}
+
+/// Editions that there are and others, with transactions or without.
+fn editions(round: usize, random: &mut Random) -> Case {
+    let transactions = [0, 2][round % 2];
+    let right = any_edition(random);
+    let mut case = sound(right, [2, 1, 1, transactions], random);
+    let right = right.number();
+    case.edition = random.pick(&[
+        0,
+        1,
+        -1,
+        2,
+        3,
+        62,
+        63,
+        64,
+        65,
+        128,
+        255,
+        256,
+        -right,
+        right + 64,
+        right + 256,
+        right + (1 << 32),
+        right + (1 << 63),
+        i64::MIN,
+        i64::MAX,
+    ]);
+    case
+}
+
+/// A list of one edition told as of the other: with as many transactions, or
+/// with as many as then have all its numbers, which by chance are right so, too.
+fn other_edition(round: usize, random: &mut Random) -> Case {
+    let listed = Edition::ALL[round % 2];
+    let numbers = listed.transaction_numbers() as i64;
+    let other = listed.other();
+    let others = other.transaction_numbers() as i64;
+    let times = 1 + random.index(2) as i64;
+    let count = others * times;
+    let mut case = sound(listed, [64, 64, random.between(0, 2), count], random);
+    for sale in &mut case.transactions {
+        for number in sale.iter_mut() {
+            *number = random.pick(&[0, 0, 0, 0, 0, 0, 0, 0, 1, 63]);
+        }
+    }
+    case.edition = other.number();
+    if round / 2 % 4 != 0 {
+        case.counts[TRANSACTIONS] = numbers * times;
     }
     case
 }
@@ -443,18 +564,34 @@ fn lengths(round: usize, random: &mut Random) -> Case {
     let mut case = faultless(random);
     let list = round % 3;
     let other = (list + 1) % 3;
-    match round / 3 % 24 {
+    match round / 3 % 25 {
         0 => case.excess[list] = EMPTY,
         1 => case.excess = [EMPTY; 3],
         2 => (case.excess[list], case.excess[other]) = (8, -8),
         3 => (case.excess[list], case.excess[other]) = (48, -48),
         4 => (case.excess[list], case.excess[other]) = (1, -1),
-        5 => std::mem::swap(&mut case.rows, &mut case.transactions),
-        6..=12 => case.excess[list] = round as i64 / 3 % 24 - 5,
-        13..=19 => case.excess[list] = 12 - round as i64 / 3 % 24,
+        5 => exchange(&mut case),
+        n @ 6..=12 => case.excess[list] = n as i64 - 5,
+        n @ 13..=19 => case.excess[list] = 12 - n as i64,
+        20 => (case.excess[list], case.excess[other]) = (56, -56),
         _ => case.excess[list] = random.pick(&[-8, 8, -48, 48, -208, 208, 416, 4_096]),
     }
     case
+}
+
+/// The rows stand where the transactions should, and these there.
+fn exchange(case: &mut Case) {
+    let paths = case.transactions.iter().map(|sale| {
+        let [market, interval, participant, _, source, sink, kw] = *sale;
+        [market, interval, participant, source, sink, kw]
+    });
+    let paths: Vec<Row> = paths.collect();
+    let sales = case.rows.iter().map(|row| {
+        let [a, b, c, d, e, kw] = *row;
+        [a, b, c, 0, d, e, kw]
+    });
+    case.transactions = sales.collect();
+    case.rows = paths;
 }
 
 const EMPTY: i64 = i64::MIN / 2;
@@ -480,6 +617,9 @@ fn buffers(round: usize, random: &mut Random) -> Case {
         18_820,
         18_821,
         18_822,
+        19_076,
+        19_077,
+        19_078,
     ];
     case.with_room(lens[round % lens.len()] - len)
 }
@@ -488,17 +628,19 @@ fn buffers(round: usize, random: &mut Random) -> Case {
 fn noise(_: usize, random: &mut Random) -> Case {
     let any = |random: &mut Random| random.any() >> random.pick(&[0, 32, 40, 56, 60, 62]);
     let counts = [0, 1, 2, 3].map(|_| random.between(0, 3));
-    let mut six = |count: i64| -> Vec<Six> {
-        (0..count)
-            .map(|_| [0; FIELDS].map(|_: i64| any(random)))
-            .collect()
-    };
-    let (rows, transactions) = (six(counts[ROWS]), six(counts[TRANSACTIONS]));
+    let rows = (0..counts[ROWS]).map(|_| [0; 6].map(|_: i64| any(random)));
+    let rows = rows.collect();
+    let transactions = (0..counts[TRANSACTIONS]).map(|_| [0; 7].map(|_: i64| any(random)));
+    let transactions = transactions.collect();
     let prices = (0..STRETCHES as i64 * counts[LOCATIONS]).map(|_| match random.index(40) {
         0 => any(random),
         _ => price(random),
     });
-    let mut case = Case::of(0, prices.collect(), rows, transactions);
+    let prices = prices.collect();
+    let mut case = Case::of(any_edition(random), 0, prices, rows, transactions);
+    if random.once_in(8) {
+        case.edition = any(random);
+    }
     case.counts[PARTICIPANTS] = counts[PARTICIPANTS];
     if random.once_in(8) {
         case.excess = [0; 3].map(|_: i64| random.pick(&[0, 0, 1, -1, 8, -8]));
@@ -564,18 +706,38 @@ fn one_entry(_: usize, random: &mut Random) -> Case {
     case
 }
 
+/// The n-th of all pairs of faults of a transaction, both in the only one.
+pub fn one_transaction(n: usize, random: &mut Random) -> Case {
+    let mut case = faultless(random);
+    case.transactions.truncate(1);
+    case.counts[TRANSACTIONS] = 1;
+    let faults = faults_of(OF_TRANSACTIONS);
+    let (first, second) = pair(n, faults.len());
+    for fault in [first, second] {
+        faults[fault].2(&mut case, random);
+    }
+    case
+}
+
 /// A way to be refused: its stage in the order, the number it gets when it
 /// stands alone, and how a case comes to it. None undoes another.
 type Fault = (usize, u32, fn(&mut Case, &mut Random));
 
-const OF_LENGTHS: usize = 0;
-const OF_PRICES: usize = 1;
-const OF_ROWS: usize = 2;
-const OF_TRANSACTIONS: usize = 3;
-const OF_BUFFER: usize = 4;
-const STAGES: usize = 5;
+const OF_EDITION: usize = 0;
+const OF_LENGTHS: usize = 1;
+const OF_PRICES: usize = 2;
+const OF_ROWS: usize = 3;
+const OF_TRANSACTIONS: usize = 4;
+const OF_BUFFER: usize = 5;
+const STAGES: usize = 6;
 
 const FAULTS: &[Fault] = &[
+    (OF_EDITION, 9, |case, random| {
+        stray(&mut case.edition, 0, 1, random)
+    }),
+    (OF_EDITION, 9, |case, random| {
+        case.edition = random.pick(&[-1, 2, 63, 64, i64::MIN, i64::MAX]);
+    }),
     (OF_LENGTHS, 1, |case, random| {
         stray(&mut case.counts[PARTICIPANTS], 1, 64, random);
     }),
@@ -623,6 +785,12 @@ const FAULTS: &[Fault] = &[
             case.transactions.pop();
         } else {
             case.transactions.push(case.transactions[0]);
+        }
+    }),
+    (OF_LENGTHS, 1, |case, _| {
+        // Numbers of the other edition, unless they are already.
+        if case.edition == case.listed.number() {
+            case.listed = case.listed.other();
         }
     }),
     (OF_LENGTHS, 1, |case, random| spoil_bytes(case, 0, random)),
@@ -683,20 +851,22 @@ const FAULTS: &[Fault] = &[
         stray(&mut any(&mut case.transactions, random)[2], 0, last, random);
     }),
     (OF_TRANSACTIONS, 3, |case, random| {
-        let last = case.identities(LOCATIONS) - 1;
-        stray(&mut any(&mut case.transactions, random)[3], 0, last, random);
+        case.list_sellers();
+        let last = case.identities(PARTICIPANTS) - 1;
+        let seller = &mut any(&mut case.transactions, random)[SELLER];
+        stray(seller, 0, last, random);
     }),
     (OF_TRANSACTIONS, 3, |case, random| {
         let last = case.identities(LOCATIONS) - 1;
         stray(&mut any(&mut case.transactions, random)[4], 0, last, random);
     }),
+    (OF_TRANSACTIONS, 3, |case, random| {
+        let last = case.identities(LOCATIONS) - 1;
+        stray(&mut any(&mut case.transactions, random)[5], 0, last, random);
+    }),
     (OF_TRANSACTIONS, 2, |case, random| {
-        stray(
-            &mut any(&mut case.transactions, random)[5],
-            0,
-            MOST_KW,
-            random,
-        );
+        let kw = &mut any(&mut case.transactions, random)[6];
+        stray(kw, 0, MOST_KW, random);
     }),
     (OF_BUFFER, 1, |case, random| {
         case.room = random.pick(&[-1, -1, -5, -6, -48, EMPTY]);
@@ -716,7 +886,7 @@ fn spoilt(faults: &[&Fault], random: &mut Random) -> Case {
     case
 }
 
-fn any<'a>(entries: &'a mut [Six], random: &mut Random) -> &'a mut Six {
+fn any<'a, T>(entries: &'a mut [T], random: &mut Random) -> &'a mut T {
     let at = random.index(entries.len());
     &mut entries[at]
 }
@@ -814,6 +984,7 @@ mod tests {
             assert_eq!(read_file(&file, &mut lists), 0);
             let given = case.given();
             assert_eq!(header.participants as i64, given.participants);
+            assert_eq!(header.edition.number(), given.edition);
             assert!(lists == [given.prices, given.row_list, given.transaction_list]);
         }
         assert!(tried > 800, "{tried}");
@@ -848,9 +1019,15 @@ mod tests {
         for turn in 0..6_000 {
             seen.extend(shapes(&draw(turn, &mut random)));
         }
-        // Two files, three lengths of buffers, four of each list, the counts
-        // below and above with their lists and without, a price of either sign.
-        assert_eq!(seen.len(), 2 + 3 + 4 * 3 + 2 * 4 + 3 + 2, "{seen:#?}");
+        // Two files of each edition, three lengths of buffers, four of each
+        // list, the counts and the edition below and above, the counts above
+        // with their lists, too, a price of either sign, and lists of either
+        // edition told as of the other, refused and accepted.
+        assert_eq!(
+            seen.len(),
+            2 * 2 + 3 + 4 * 3 + 2 * 5 + 3 + 2 + 2 * 2,
+            "{seen:#?}"
+        );
     }
 
     fn shapes(case: &Case) -> Vec<String> {
@@ -864,7 +1041,7 @@ mod tests {
             let shortest = case.counts == SMALLEST;
             let name = if longest { Some("the longest") } else { None };
             let name = if shortest { Some("the shortest") } else { name };
-            shapes.extend(name.map(str::to_string));
+            shapes.extend(name.map(|name| format!("{name} of edition {}", case.edition)));
             let signs = [(MOST_PRICE, "most"), (-MOST_PRICE, "least")];
             let signs = signs.iter().filter(|sign| case.prices.contains(&sign.0));
             shapes.extend(signs.map(|sign| format!("the {} price", sign.1)));
@@ -872,10 +1049,18 @@ mod tests {
         if number == 0 || (number == 1 && write_file(&given, &mut [0; 300_000]) == 0) {
             shapes.push(format!("buffer {buffer:?}"));
         }
+        let each = Edition::of(case.edition).map_or(0, Edition::transaction_numbers);
+        if each == 0 {
+            let shape = if case.edition < 0 { "below" } else { "above" };
+            shapes.push(format!("edition {shape}"));
+        } else if case.edition != case.listed.number() && !case.transactions.is_empty() {
+            let verdict = if number == 0 { "accepted" } else { "refused" };
+            shapes.push(format!("{:?} as the other {verdict}", case.listed));
+        }
         let limits = [(1, 64), (1, 64), (0, 2_048), (0, 256)];
         for (at, (least, most)) in limits.into_iter().enumerate() {
             let count = case.counts[at];
-            let per = [0, 8 * STRETCHES, 48, 48][at];
+            let per = [0, 8 * STRETCHES, 48, 8 * each][at];
             let fits = at > 0 && count.checked_mul(per as i64) == Some(lists[at - 1].len() as i64);
             if count < least {
                 shapes.push(format!("count {at} below"));
@@ -905,10 +1090,11 @@ mod tests {
         for turn in 0..2_400 {
             seen[number(&draw(turn, &mut random)) as usize] += 1;
         }
-        assert!(seen[0] > 700, "{seen:?}");
-        for number in [1, 2, 3, 4] {
+        assert!(seen[0] > 600, "{seen:?}");
+        for number in [1, 2, 3, 4, 9] {
             assert!(seen[number] > 150, "{seen:?}");
         }
-        assert_eq!(seen.iter().sum::<i32>(), seen[..5].iter().sum(), "{seen:?}");
+        let known = [0, 1, 2, 3, 4, 9].map(|number: usize| seen[number]);
+        assert_eq!(seen.iter().sum::<i32>(), known.iter().sum(), "{seen:?}");
     }
 }

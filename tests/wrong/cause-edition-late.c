@@ -1,0 +1,3 @@
+/* The edition is tested after the counts. */
+#define MISTAKE EDITION_LATE
+#include "cause.h"

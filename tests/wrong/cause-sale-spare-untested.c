@@ -1,0 +1,3 @@
+/* Spare bits of a sale may be set. */
+#define MISTAKE SALE_SPARE_UNTESTED
+#include "cause.h"

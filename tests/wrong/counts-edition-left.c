@@ -1,0 +1,3 @@
+/* The edition is left as it was. */
+#define MISTAKE EDITION_LEFT
+#include "counts.h"

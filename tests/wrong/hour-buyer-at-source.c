@@ -1,0 +1,3 @@
+/* A buyer injects at the source of its purchase. */
+#define MISTAKE BUYER_AT_SOURCE
+#include "hour.h"
