@@ -1,5 +1,5 @@
 //! Links the archives from the folder that ENGINE names, again whenever one
-//! changes: libwunzelihle.a, and libexercise_probe.a for the check.
+//! changes: libwunzelihle.a, libexercise_probe.a for the check, and libbefore.a.
 
 fn main() {
     let folder = std::env::var("ENGINE").expect("ENGINE is the folder of libwunzelihle.a");
@@ -8,6 +8,9 @@ fn main() {
     link(&folder, "wunzelihle");
     if std::env::var_os("CARGO_FEATURE_CHECK").is_some() {
         link(&folder, "exercise_probe");
+    }
+    if std::env::var_os("CARGO_FEATURE_BEFORE").is_some() {
+        link(&folder, "before");
     }
 }
 

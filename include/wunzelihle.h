@@ -451,7 +451,7 @@ uint32_t wz_version(void);
  *   WZ_RANGE      a share is outside its range
  *   WZ_NO_SHARES  the shares total 0 and the amount isn't 0
  *
- * Stack: at most 3 KB.
+ * Stack: at most 2 KB.
  */
 uint32_t wz_split(int64_t amount,
                   const uint8_t *shares, size_t shares_len,
@@ -519,7 +519,7 @@ uint32_t wz_split(int64_t amount,
  *                    up to 0 and its loads do
  *   WZ_CONTRACTS     contracts have more kW at a bus than the distributor
  *
- * Stack: at most 84 KB.
+ * Stack: at most 83 KB.
  */
 uint32_t wz_assign_load(int64_t metered, int64_t distributor,
                         const uint8_t *loads, size_t loads_len,
@@ -624,7 +624,7 @@ uint32_t wz_assign_load(int64_t metered, int64_t distributor,
  *   WZ_NO_SHARES  the surplus isn't 0, and everybody's real-time load and
  *                 exports add up to 0
  *
- * Stack: at most 20 KB.
+ * Stack: at most 19 KB.
  */
 uint32_t wz_settle_hour(const uint8_t *file, size_t file_len,
                         uint8_t *congestion, size_t congestion_len,

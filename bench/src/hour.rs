@@ -7,8 +7,10 @@ use reference::cases;
 use reference::exercise::Edition;
 use reference::random::Random;
 
-extern "C" {
-    fn wz_settle_hour(
+timing::engines!(
+    wz_settle_hour,
+    before_wz_settle_hour,
+    (
         file: *const u8,
         file_len: usize,
         congestion: *mut u8,
@@ -19,8 +21,8 @@ extern "C" {
         credit_len: usize,
         net: *mut u8,
         net_len: usize,
-    ) -> u32;
-}
+    )
+);
 
 struct Hour {
     file: Vec<u8>,
@@ -43,7 +45,12 @@ impl Case for Hour {
     }
 
     fn engine(&self, out: &mut [u8]) -> u32 {
-        engine(&self.file, self.lists(out))
+        engine(wz_settle_hour, &self.file, self.lists(out))
+    }
+
+    #[cfg(feature = "before")]
+    fn before() -> Option<timing::Answer<Hour>> {
+        Some(|case, out| engine(before_wz_settle_hour, &case.file, case.lists(out)))
     }
 
     fn plain(&self, out: &mut [u8]) -> u32 {
@@ -69,11 +76,11 @@ impl Case for Hour {
     }
 }
 
-fn engine(file: &[u8], lists: [&mut [u8]; 4]) -> u32 {
+fn engine(call: Call, file: &[u8], lists: [&mut [u8]; 4]) -> u32 {
     let [congestion, loss, credit, net] = lists;
     // Every list is lent with its own length.
     unsafe {
-        wz_settle_hour(
+        call(
             file.as_ptr(),
             file.len(),
             congestion.as_mut_ptr(),
@@ -287,5 +294,6 @@ pub fn settle_beside(file: &[u8], room: &mut [u8]) -> u32 {
     let (congestion, room) = room.split_at_mut(512);
     let (loss, room) = room.split_at_mut(512);
     let (credit, room) = room.split_at_mut(512);
-    engine(file, [congestion, loss, credit, &mut room[..512]])
+    let lists = [congestion, loss, credit, &mut room[..512]];
+    engine(wz_settle_hour, file, lists)
 }

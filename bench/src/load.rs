@@ -6,7 +6,7 @@ use reference::cases;
 use reference::load::Given;
 use reference::random::Random;
 
-const CASES: usize = 8;
+const CASES: usize = 1_000;
 const BUSES: usize = 64;
 const PARTICIPANTS: usize = 64;
 const AREAS: usize = 16;
@@ -15,8 +15,10 @@ const METERS: usize = 64;
 const MOST_KW: i64 = 20_000_000;
 const WHOLE: u64 = 1_000_000;
 
-extern "C" {
-    fn wz_assign_load(
+timing::engines!(
+    wz_assign_load,
+    before_wz_assign_load,
+    (
         metered: i64,
         distributor: i64,
         loads: *const u8,
@@ -34,8 +36,8 @@ extern "C" {
         tranches_len: usize,
         out: *mut u8,
         out_len: usize,
-    ) -> u32;
-}
+    )
+);
 
 struct Load {
     given: Given,
@@ -50,18 +52,12 @@ impl Load {
             out_len: out.len(),
         }
     }
-}
 
-impl Case for Load {
-    fn out_len(&self) -> usize {
-        self.out_len
-    }
-
-    fn engine(&self, out: &mut [u8]) -> u32 {
+    fn call(&self, call: Call, out: &mut [u8]) -> u32 {
         let given = &self.given;
         // Every list is lent with its own length.
         unsafe {
-            wz_assign_load(
+            call(
                 given.metered,
                 given.distributor,
                 given.loads.as_ptr(),
@@ -81,6 +77,21 @@ impl Case for Load {
                 out.len(),
             )
         }
+    }
+}
+
+impl Case for Load {
+    fn out_len(&self) -> usize {
+        self.out_len
+    }
+
+    fn engine(&self, out: &mut [u8]) -> u32 {
+        self.call(wz_assign_load, out)
+    }
+
+    #[cfg(feature = "before")]
+    fn before() -> Option<timing::Answer<Load>> {
+        Some(|case, out| case.call(before_wz_assign_load, out))
     }
 
     fn plain(&self, out: &mut [u8]) -> u32 {

@@ -10,6 +10,21 @@ const ROUND_NANOSECONDS: f64 = 1_500_000.0;
 /// Cases, good and damaged, on which plain Rust is held against the reference.
 const TRIED: usize = 2_000;
 
+/// Declares a call of the engine, the same call of an engine from before where
+/// one is linked, and their type, `Call`.
+macro_rules! engines {
+    ($now:ident, $before:ident, ($($name:ident: $type:ty),* $(,)?)) => {
+        extern "C" {
+            fn $now($($name: $type),*) -> u32;
+            #[cfg(feature = "before")]
+            fn $before($($name: $type),*) -> u32;
+        }
+
+        type Call = unsafe extern "C" fn($($type),*) -> u32;
+    };
+}
+pub(crate) use engines;
+
 /// A call with what it is given, and three that answer it.
 pub trait Case: Sized {
     /// The length of the output lists, which stand one behind the other.
@@ -21,7 +36,12 @@ pub trait Case: Sized {
     /// A case of the reference's, of any family.
     fn draw(turn: usize, random: &mut Random) -> Self;
 
-    /// What else is timed beside the three, by its name.
+    /// What answers it in the engine from before, where one is linked.
+    fn before() -> Option<Answer<Self>> {
+        None
+    }
+
+    /// What else is timed beside these, by its name.
     fn beside() -> Option<(&'static str, Answer<Self>)> {
         None
     }
@@ -43,15 +63,17 @@ pub fn compare<C: Case>(name: &str, cases: &[C]) {
     for case in cases {
         agree(case, C::engine, &mut random);
         agree(case, C::plain, &mut random);
+        if let Some(before) = C::before() {
+            agree(case, before, &mut random);
+        }
         if let Some((name, answer)) = C::beside() {
             assert_eq!(answer(case, &mut vec![0; case.out_len()]), 0, "{name}");
         }
     }
-    let mut timed: Vec<(&str, Answer<C>)> = vec![
-        ("engine", C::engine),
-        ("plain Rust", C::plain),
-        ("reference", C::reference),
-    ];
+    let mut timed: Vec<(&str, Answer<C>)> = vec![("engine", C::engine)];
+    timed.extend(C::before().map(|before| ("before", before)));
+    timed.push(("plain Rust", C::plain));
+    timed.push(("reference", C::reference));
     timed.extend(C::beside());
     let times = times_of(&timed, cases);
     println!("{name}");
@@ -65,22 +87,33 @@ pub fn compare<C: Case>(name: &str, cases: &[C]) {
     }
 }
 
-/// The best and the median of each, taken in turns.
+/// The best and the median of each, taken in turns. A round goes through as many
+/// cases as the engine answers in its time, the next one through those behind
+/// them, up to the last and again from the first.
 fn times_of<C: Case>(timed: &[(&str, Answer<C>)], cases: &[C]) -> Vec<(f64, f64)> {
+    let engine = time(timed[0].1, cases, 1);
+    let count = ((ROUND_NANOSECONDS / engine) as usize).clamp(1, cases.len());
     let passes: Vec<usize> = timed
         .iter()
         .map(|(_, answer)| {
-            let pass = time(*answer, cases, 1) * cases.len() as f64;
+            let pass = time(*answer, &cases[..count], 1) * count as f64;
             (ROUND_NANOSECONDS / pass).ceil() as usize
         })
         .collect();
     let mut times = vec![Vec::new(); timed.len()];
+    let mut from = 0;
     for round in 0..ROUNDS {
+        let stretch = &cases[from..from + count];
         // The one that goes first changes, too.
         for turn in 0..timed.len() {
             let at = (round + turn) % timed.len();
-            times[at].push(time(timed[at].1, cases, passes[at]));
+            times[at].push(time(timed[at].1, stretch, passes[at]));
         }
+        // The last stretch ends with the last case.
+        from = match cases.len() - count - from {
+            0 => 0,
+            rest => from + count.min(rest),
+        };
     }
     times.into_iter().map(best_and_median).collect()
 }

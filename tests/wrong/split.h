@@ -17,6 +17,14 @@ static inline int64_t total_of(const uint8_t *shares, size_t count)
     return total;
 }
 
+/* A share's part, cut down; and whether a remainder comes before another. */
+#ifndef PART_OF
+#define PART_OF(size, share, total) ((size) * (share) / (total))
+#endif
+#ifndef BEFORE
+#define BEFORE(a, b) ((a) > (b))
+#endif
+
 /* Gives the units left to the largest remainders, the earlier first. */
 static inline void give_left(int64_t *part, int64_t *remainder, size_t count, int64_t left)
 {
@@ -24,7 +32,7 @@ static inline void give_left(int64_t *part, int64_t *remainder, size_t count, in
         size_t largest = 0, i;
 
         for (i = 1; i < count; i++)
-            if (remainder[i] > remainder[largest])
+            if (BEFORE(remainder[i], remainder[largest]))
                 largest = i;
         part[largest]++;
         remainder[largest] = -1;
@@ -50,8 +58,8 @@ static inline uint32_t right_split(int64_t amount, const uint8_t *shares, size_t
 
     size = left = amount < 0 ? -amount : amount;
     for (i = 0; i < count; i++) {
-        part[i] = total ? size * wz_get(shares, i) / total : 0;
-        remainder[i] = total ? size * wz_get(shares, i) % total : 0;
+        part[i] = total ? PART_OF(size, wz_get(shares, i), total) : 0;
+        remainder[i] = size * wz_get(shares, i) - part[i] * total;
         left -= part[i];
     }
     give_left(part, remainder, count, left);

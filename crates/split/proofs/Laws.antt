@@ -6,9 +6,12 @@ use mathlib.Core.List.{List}
 use Prim.Native.Nat.{ℕ, zero, suc, _+_, _*_, _-_, _/_, _%_, _≤_, _<_}
 use native.Mathlib.Nat.{div-add-mod, mod-lt, zero-div, zero-mod, mul-zero, zero-mul, le-of-mul-le-mul-left, mul-le-mul-left, mul-lt-mul-of-pos-left, eq-zero-or-pos, eq-or-lt-of-le, le-of-lt, le-div-iff-mul-le, div-mul-le-self}
 use native.Mathlib.Omega.{arith}
-use lib.Dec.{ltb}
-use lib.IntN.{ℤ, natAbs}
+use lib.Dec.{T, ltb}
+use lib.IntN.{ℤ, pos, natAbs}
 use lib.ListN.{length}
+use lib.Signed.{nonNeg}
+use mir.Syntax.{w64}
+use mir.Val.{Fits}
 use borrow.Author.Tests.{lt-ltb, le-ltb, ltb-true}
 use Rattle.ints.specs.Number.{below0, signed}
 use Rattle.ints.specs.Sum.{sumN, one, count}
@@ -98,7 +101,7 @@ module _ (size : ℕ) (shares : List ℤ) where
         at zero l = omega arith
         at (suc x) l = subst (λ (b : Bool). suc x ≤ t * one b) (sym (lt-ltb 0 (suc x) (omega arith))) (omega arith)
 
-    left-most : left ≤ n
+    pub left-most : left ≤ n
     left-most = omega (arith, left-few, sumN-most (λ i. one (ltb 0 (r i))) 1 n (λ i _. one-most (ltb 0 (r i))))
 
     -- ---- the parts total the size
@@ -159,6 +162,10 @@ module _ (size : ℕ) (shares : List ℤ) where
     -- ---- sizes, for the code
     pub cut-front : (i : ℕ) → i ≤ n → sumN q i ≤ size
     cut-front i l = omega (arith, sumN-part q i n l, cut-sum)
+
+-- a number from 0 to 4,000,000,000 can be cast to 64 bits without a sign
+pub natural-cast : (z : ℤ) (n : ℕ) → z ≡ pos n → n ≤ 4000000000 → T (nonNeg z) × Fits w64 (natAbs z)
+natural-cast z n e h = subst (λ (z : ℤ). T (nonNeg z) × Fits w64 (natAbs z)) (sym e) (tt, record { fits = omega arith })
 
 -- at most 64 shares of at most 4,000,000,000
 pub total-most : (shares : List ℤ) → Shares shares → total shares ≤ 256000000000

@@ -1,3 +1,4 @@
-pub mod Floors
 pub mod Parts
+pub mod Places
+pub mod Quotients
 pub mod Unique

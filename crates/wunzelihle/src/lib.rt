@@ -1,9 +1,11 @@
 // What the C server calls: each answers its refusal, or 0. Lists cross in bytes, eight a number; the work is done in the crates below.
 ghost use mathlib.Core.Path.{_≡_};
 ghost use mathlib.Core.List.{[], _∷_};
+ghost use Prim.Native.Nat.{_*_};
 ghost use lib.ListN.{length};
 ghost use Rattle.ints.specs.Refusal.{lent};
-ghost use Rattle.numbers.specs.Bytes.{encoded};
+ghost use Rattle.numbers.specs.Bytes.{numbers, encoded};
+ghost use Rattle.split.specs.Split.{splitRefusal, parts as Split·parts};
 ghost use Rattle.exercise.specs.Cause.{hourCause, givenCause, causeRefusal, causeOutcome};
 ghost use Rattle.exercise.specs.File.{hourOf};
 ghost use Rattle.exercise.specs.Lists.{content, participantsOf, fileCountsRefusal, fileCountsOutcome, writeRefusal, writeOutcome, readRefusal, pricesListed, rowsListed, transactionsListed};
@@ -13,6 +15,21 @@ ghost use Rattle.hour.specs.Surplus.{credits, nets};
 ghost use Rattle.wunzelihle.specs.Version.{version};
 ghost use Rattle.wunzelihle.specs.Split.{splitBytesRefusal, splitBytesOutcome};
 ghost use Rattle.wunzelihle.specs.Load.{loadBytesRefusal, loadBytesOutcome};
+
+// Shares read into a list, split there, and the parts written from it.
+fn split_listed(amount: i64, shares: &[u8], list: &mut [i64], parts: &mut [u8]) -> u32
+    requires { ⌜ (length (now shares) ≡ 8 * length (now list)) × (length (now parts) ≡ 8 * length (now list)) ⌝ }
+    ensures { λ r. ⌜ r ≡ splitRefusal amount (numbers (now (shares .entry))) (length (now (list .entry))) ⌝ }
+    ensures { λ r. ⌜ now (parts .exit) ≡ lent r (encoded (Split·parts amount (numbers (now (shares .entry))))) (now (parts .entry)) ⌝ }
+{
+    numbers::read_all(shares, list);
+    let refused = split_amount::split_in_place(amount, list);
+    if refused != 0 {
+        return refused;
+    }
+    numbers::write_all(list, parts);
+    0
+}
 
 #[no_mangle]
 pub extern "C" fn wz_split(amount: i64, shares: &[u8], parts: &mut [u8]) -> u32
@@ -32,15 +49,8 @@ pub extern "C" fn wz_split(amount: i64, shares: &[u8], parts: &mut [u8]) -> u32
     if parts.len() / 8 != n {
         return 1;
     }
-    let mut given = [0i64; 64];
-    numbers::read_all(shares, &mut given[..n]);
-    let mut made = [0i64; 64];
-    let refused = split_amount::split(amount, &given[..n], &mut made[..n]);
-    if refused != 0 {
-        return refused;
-    }
-    numbers::write_all(&made[..n], parts);
-    0
+    let mut list = [0i64; 64];
+    split_listed(amount, shares, &mut list[..n], parts)
 }
 
 #[no_mangle]

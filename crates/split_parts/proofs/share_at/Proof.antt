@@ -1,19 +1,11 @@
 -- `split_parts::share_at` meets its contract. Assumes nothing.
-use mathlib.Core.Path.{_≡_, sym, _∙_, subst}
-use Prim.Native.Nat.{ℕ, _≤_}
-use native.Mathlib.Omega.{arith}
-use lib.Dec.{T}
-use lib.IntN.{ℤ, pos, natAbs}
-use lib.Signed.{nonNeg}
+use mathlib.Core.Path.{_∙_}
 use mir.Syntax.{w64}
-use mir.Val.{Fits}
 use mir.Facts.{toZ-ofZ}
 use borrow.Author.Needs.{needs, sfits-of}
+use Rattle.split.proofs.Laws.{natural-cast}
 use Rattle.split_parts.proofs.share_at.Statement.{statement}
 use Rattle.split_parts.proofs.share_at.Tie as tie
-
-natural-cast : (z : ℤ) (n : ℕ) → z ≡ pos n → n ≤ 4000000000 → T (nonNeg z) × Fits w64 (natAbs z)
-natural-cast z n e h = subst (λ (z : ℤ). T (nonNeg z) × Fits w64 (natAbs z)) (sym e) (tt, record { fits = omega arith })
 
 mul-result : tie.Need-mul-result
 mul-result c = search needs

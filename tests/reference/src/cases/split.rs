@@ -35,7 +35,7 @@ pub fn case(turn: usize, random: &mut Random) -> Case {
 
 type Family = fn(&mut Random) -> Case;
 
-const FAMILIES: [Family; 23] = [
+const FAMILIES: [Family; 24] = [
     wide,
     small,
     one_party,
@@ -46,6 +46,7 @@ const FAMILIES: [Family; 23] = [
     one_holds_all,
     multiple_of_total,
     fewer_units_than_parties,
+    units_left,
     at_the_limits,
     word_edges,
     no_amount,
@@ -179,6 +180,28 @@ fn multiple_of_total(random: &mut Random) -> Case {
 fn fewer_units_than_parties(random: &mut Random) -> Case {
     let shares = shares_to(random.pick(&[3, 50, MOST_SHARE]), parties(random), random);
     let size = random.between(1, shares.len() as i64);
+    fitting(random.pick(&[1, -1]) * size, &shares, random)
+}
+
+/// One unit is left, or all but one. A share is some times `whole`, which stands
+/// for a unit, and a rest; the rests total `whole`, or what they lack of it does.
+fn units_left(random: &mut Random) -> Case {
+    let count = parties(random);
+    let whole = random.between(3_000, 4_000);
+    let mut ends: Vec<i64> = (1..count).map(|_| random.between(0, whole)).collect();
+    ends.extend([0, whole]);
+    ends.sort_unstable();
+    let one = random.once_in(2);
+    let mut size = if one { 1 } else { count as i64 - 1 };
+    let shares: Vec<i64> = ends
+        .windows(2)
+        .map(|end| {
+            let part = random.between(0, 999_999);
+            let rest = end[1] - end[0];
+            size += part;
+            whole * part + if one { rest } else { whole - rest }
+        })
+        .collect();
     fitting(random.pick(&[1, -1]) * size, &shares, random)
 }
 
