@@ -6,9 +6,7 @@ fn main() {
     println!("cargo:rustc-link-search=native={folder}");
     println!("cargo:rerun-if-env-changed=ENGINE");
     link(&folder, "wunzelihle");
-    if std::env::var_os("CARGO_FEATURE_CHECK").is_some() {
-        link(&folder, "exercise_probe");
-    }
+    link(&folder, "exercise_probe");
     if std::env::var_os("CARGO_FEATURE_BEFORE").is_some() {
         link(&folder, "before");
     }

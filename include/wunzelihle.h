@@ -519,7 +519,7 @@ uint32_t wz_split(int64_t amount,
  *                    up to 0 and its loads do
  *   WZ_CONTRACTS     contracts have more kW at a bus than the distributor
  *
- * Stack: at most 83 KB.
+ * Stack: at most 59 KB.
  */
 uint32_t wz_assign_load(int64_t metered, int64_t distributor,
                         const uint8_t *loads, size_t loads_len,
@@ -624,7 +624,7 @@ uint32_t wz_assign_load(int64_t metered, int64_t distributor,
  *   WZ_NO_SHARES  the surplus isn't 0, and everybody's real-time load and
  *                 exports add up to 0
  *
- * Stack: at most 19 KB.
+ * Stack: at most 10 KB.
  */
 uint32_t wz_settle_hour(const uint8_t *file, size_t file_len,
                         uint8_t *congestion, size_t congestion_len,
@@ -853,7 +853,7 @@ uint32_t wz_counts(const uint8_t *file, size_t file_len,
  *
  *   WZ_LENGTH     cause_len isn't 56
  *
- * Stack: at most 17 KB.
+ * Stack: at most 9 KB.
  */
 uint32_t wz_find_cause(const uint8_t *file, size_t file_len,
                        uint8_t *cause, size_t cause_len);

@@ -1,13 +1,9 @@
-//! The check of a file beside plain Rust. It is no call of the product; the
-//! tests' archive has it.
+//! The check of a file. It is no call of the product; the tests' archive has it.
 
-use crate::exercise::File;
+use crate::plain;
 use crate::timing::{self, Case};
 use reference::cases;
-use reference::exercise::Edition;
 use reference::random::Random;
-
-const CASES: usize = 16;
 
 extern "C" {
     fn probe_check(file: *const u8, file_len: usize) -> u32;
@@ -18,6 +14,10 @@ struct Check {
 }
 
 impl Case for Check {
+    fn inputs(&self) -> Vec<&[u8]> {
+        vec![&self.file]
+    }
+
     fn out_len(&self) -> usize {
         0
     }
@@ -27,11 +27,8 @@ impl Case for Check {
         unsafe { probe_check(self.file.as_ptr(), self.file.len()) }
     }
 
-    fn plain(&self, _: &mut [u8]) -> u32 {
-        match check(&self.file) {
-            Ok(()) => 0,
-            Err(number) => number,
-        }
+    fn plain(&self, _: &mut [u8]) -> plain::Answer {
+        plain::check(&self.file)
     }
 
     fn reference(&self, _: &mut [u8]) -> u32 {
@@ -39,26 +36,14 @@ impl Case for Check {
     }
 
     fn draw(turn: usize, random: &mut Random) -> Check {
-        Check {
-            file: cases::check::draw(turn, random),
-        }
+        let file = cases::check::draw(turn, random);
+        Check { file }
     }
 }
 
-pub fn compare() {
+pub fn compare(files: &[Vec<u8>]) {
     timing::try_plain::<Check>();
-    let mut random = Random::new(1);
-    let mut case = || Check {
-        file: cases::hour::accepted(Edition::WithSeller, 64, 64, 2_048, 256, &mut random).bytes(),
-    };
-    let cases: Vec<Check> = (0..CASES).map(|_| case()).collect();
-    timing::compare("check of the longest file", &cases);
-}
-
-/// Plain Rust.
-fn check(file: &[u8]) -> Result<(), u32> {
-    let file = File::new(file)?;
-    file.prices(|_, _| ())?;
-    file.rows(|_| ())?;
-    file.transactions(|_| ())
+    let case = |file: &Vec<u8>| Check { file: file.clone() };
+    let cases: Vec<Check> = files.iter().map(case).collect();
+    timing::compare("check", &cases);
 }

@@ -1,19 +1,13 @@
-//! wz_assign_load beside plain Rust.
+//! wz_assign_load.
 
-use crate::shares::{number, split};
-use crate::timing::{self, Case};
-use reference::cases;
+use crate::plain;
+use crate::timing::{self, Case, INPUTS};
 use reference::load::Given;
 use reference::random::Random;
+use reference::split::parts_of;
+use reference::{cases, numbers};
 
-const CASES: usize = 1_000;
-const BUSES: usize = 64;
 const PARTICIPANTS: usize = 64;
-const AREAS: usize = 16;
-const CONTRACTS: usize = 256;
-const METERS: usize = 64;
-const MOST_KW: i64 = 20_000_000;
-const WHOLE: u64 = 1_000_000;
 
 timing::engines!(
     wz_assign_load,
@@ -45,14 +39,6 @@ struct Load {
 }
 
 impl Load {
-    fn new(case: &cases::load::Case) -> Load {
-        let (given, out) = case.given();
-        Load {
-            given,
-            out_len: out.len(),
-        }
-    }
-
     fn call(&self, call: Call, out: &mut [u8]) -> u32 {
         let given = &self.given;
         // Every list is lent with its own length.
@@ -81,6 +67,18 @@ impl Load {
 }
 
 impl Case for Load {
+    fn inputs(&self) -> Vec<&[u8]> {
+        let given = &self.given;
+        vec![
+            &given.loads,
+            &given.imports,
+            &given.generation,
+            &given.area_parts,
+            &given.contracts,
+            &given.tranches,
+        ]
+    }
+
     fn out_len(&self) -> usize {
         self.out_len
     }
@@ -94,11 +92,8 @@ impl Case for Load {
         Some(|case, out| case.call(before_wz_assign_load, out))
     }
 
-    fn plain(&self, out: &mut [u8]) -> u32 {
-        match assign(&self.given, out) {
-            Ok(()) => 0,
-            Err(number) => number,
-        }
+    fn plain(&self, out: &mut [u8]) -> plain::Answer {
+        plain::assign(&self.given, out)
     }
 
     fn reference(&self, out: &mut [u8]) -> u32 {
@@ -106,145 +101,115 @@ impl Case for Load {
     }
 
     fn draw(turn: usize, random: &mut Random) -> Load {
-        Load::new(&cases::load::draw(turn, random))
+        let (given, out) = cases::load::draw(turn, random).given();
+        let out_len = out.len();
+        Load { given, out_len }
     }
 }
+
+struct Size {
+    buses: usize,
+    areas: usize,
+    contracts: usize,
+    /// Participants with tranches.
+    winners: usize,
+    /// Imports, and as many generators.
+    meters: usize,
+}
+
+const FAMILIES: [(&str, Size); 3] = [
+    (
+        "largest: 64, 16, 256, 64",
+        Size {
+            buses: 64,
+            areas: 16,
+            contracts: 256,
+            winners: 64,
+            meters: 64,
+        },
+    ),
+    (
+        "sparse: 64, 2, 8, 4",
+        Size {
+            buses: 64,
+            areas: 2,
+            contracts: 8,
+            winners: 4,
+            meters: 4,
+        },
+    ),
+    (
+        "small: 3, 1, 2, 2",
+        Size {
+            buses: 3,
+            areas: 1,
+            contracts: 2,
+            winners: 2,
+            meters: 2,
+        },
+    ),
+];
 
 pub fn compare() {
     timing::try_plain::<Load>();
-    let mut random = Random::new(1);
-    let cases: Vec<Load> = (0..CASES)
-        .map(|_| Load::new(&cases::load::largest(&mut random)))
-        .collect();
-    timing::compare(
-        "load: 64 buses, 16 areas, 256 contracts, 64 tranches",
-        &cases,
-    );
+    println!("load, every second one metered: buses, areas, contracts, participants with tranches");
+    for (name, size) in FAMILIES {
+        let mut random = Random::new(1);
+        let cases: Vec<Load> = (0..INPUTS)
+            .map(|turn| load(&size, turn % 2 == 1, &mut random))
+            .collect();
+        timing::compare(name, &cases);
+    }
 }
 
-/// Plain Rust.
-fn assign(given: &Given, out: &mut [u8]) -> Result<(), u32> {
-    let areas = given.areas as usize;
-    let buses = given.loads.len() / 8;
-    let contracts = given.contracts.chunks_exact(24);
-    if given.loads.len() % 8 != 0 || buses == 0 || buses > BUSES {
-        return Err(1);
+/// A load of which much is left at each bus: 256 contracts of the most kW take less
+/// than half of the least that is metered there.
+fn load(size: &Size, metered: bool, random: &mut Random) -> Load {
+    let loads = draw(size.buses, 100_000, 300_000, random);
+    let total: i64 = loads.iter().sum();
+    let metered_kw = random.between(total / 2, total);
+    let weights = draw(2 * size.meters, 1, 1_000, random);
+    let mut imports = parts_of(metered_kw, &weights);
+    let generation = imports.split_off(size.meters);
+    let area = |random: &mut Random| parts_of(1_000_000, &draw(size.buses, 1, 1_000, random));
+    let areas: Vec<i64> = (0..size.areas).flat_map(|_| area(random)).collect();
+    let mut contracts = Vec::new();
+    for _ in 0..size.contracts {
+        let supplier = random.index(PARTICIPANTS) as i64;
+        let area = random.index(size.areas) as i64;
+        contracts.extend([supplier, area, random.between(1, 2_000)]);
     }
-    for meters in [&given.imports, &given.generation] {
-        if meters.len() % 8 != 0 || meters.len() > 8 * METERS {
-            return Err(1);
-        }
+    let given = Given {
+        metered: i64::from(metered),
+        distributor: random.index(PARTICIPANTS) as i64,
+        loads: numbers::bytes(&loads),
+        imports: numbers::bytes(&imports),
+        generation: numbers::bytes(&generation),
+        areas: size.areas as i64,
+        area_parts: numbers::bytes(&areas),
+        contracts: numbers::bytes(&contracts),
+        tranches: numbers::bytes(&tranches(size.winners, random)),
+    };
+    Load {
+        given,
+        out_len: 8 * PARTICIPANTS * size.buses,
     }
-    if areas > AREAS || given.area_parts.len() != 8 * areas * buses {
-        return Err(1);
-    }
-    if !contracts.remainder().is_empty() || contracts.len() > CONTRACTS {
-        return Err(1);
-    }
-    if given.tranches.len() != 8 * PARTICIPANTS || out.len() != 8 * PARTICIPANTS * buses {
-        return Err(1);
-    }
-
-    if given.metered != 0 && given.metered != 1 {
-        return Err(2);
-    }
-    let mut loads = [0; BUSES];
-    let load = read(&given.loads, &mut loads, MOST_KW)?;
-    let mut metered = 0;
-    for eight in given.imports.chunks_exact(8) {
-        let kw = number(eight);
-        if !(-MOST_KW..=MOST_KW).contains(&kw) {
-            return Err(2);
-        }
-        metered += kw;
-    }
-    let mut generators = [0; METERS];
-    metered += read(&given.generation, &mut generators, MOST_KW)? as i64;
-    let mut area_parts = [0; AREAS * BUSES];
-    read(&given.area_parts, &mut area_parts, WHOLE as i64)?;
-    for contract in contracts.clone() {
-        if !(0..=MOST_KW).contains(&number(&contract[16..])) {
-            return Err(2);
-        }
-    }
-    let mut tranches = [0; PARTICIPANTS];
-    let won = read(&given.tranches, &mut tranches, 10_000)?;
-
-    let distributor = given.distributor as usize;
-    if distributor >= PARTICIPANTS {
-        return Err(3);
-    }
-    for contract in contracts.clone() {
-        if number(&contract[..8]) as usize >= PARTICIPANTS
-            || number(&contract[8..16]) as usize >= areas
-        {
-            return Err(3);
-        }
-    }
-    for area in area_parts[..areas * buses].chunks_exact(buses) {
-        if area.iter().sum::<u64>() != WHOLE {
-            return Err(5);
-        }
-    }
-
-    let mut rest = loads.map(|load| load as i64);
-    if given.metered == 1 {
-        if !(0..=MOST_KW).contains(&metered) {
-            return Err(6);
-        }
-        if load == 0 && metered != 0 {
-            return Err(7);
-        }
-        rest = [0; BUSES];
-        if load != 0 {
-            let shares = loads[..buses].iter().copied();
-            split(metered as u64, shares, load, |bus, kw, _| rest[bus] += kw);
-        }
-    }
-    let mut kw = [0; PARTICIPANTS * BUSES];
-    for contract in contracts {
-        let supplier = number(&contract[..8]) as usize;
-        let area = number(&contract[8..16]) as usize;
-        let shares = area_parts[area * buses..][..buses].iter().copied();
-        let of_supplier = &mut kw[supplier * buses..][..buses];
-        split(
-            number(&contract[16..]) as u64,
-            shares,
-            WHOLE,
-            |bus, part, _| {
-                of_supplier[bus] += part;
-                rest[bus] -= part;
-            },
-        );
-    }
-    if rest[..buses].iter().any(|&rest| rest < 0) {
-        return Err(8);
-    }
-    for bus in 0..buses {
-        if won == 0 {
-            kw[distributor * buses + bus] += rest[bus];
-            continue;
-        }
-        let shares = tranches.iter().copied();
-        split(rest[bus] as u64, shares, won, |participant, part, _| {
-            kw[participant * buses + bus] += part;
-        });
-    }
-    for (eight, kw) in out.chunks_exact_mut(8).zip(kw) {
-        eight.copy_from_slice(&kw.to_le_bytes());
-    }
-    Ok(())
 }
 
-/// Reads a list of numbers from 0 to `most` and gives its total.
-fn read(list: &[u8], numbers: &mut [u64], most: i64) -> Result<u64, u32> {
-    let mut total = 0;
-    for (to, eight) in numbers.iter_mut().zip(list.chunks_exact(8)) {
-        *to = number(eight) as u64;
-        if *to > most as u64 {
-            return Err(2);
+fn draw(count: usize, low: i64, high: i64, random: &mut Random) -> Vec<i64> {
+    (0..count).map(|_| random.between(low, high)).collect()
+}
+
+/// Tranches of so many participants.
+fn tranches(winners: usize, random: &mut Random) -> Vec<i64> {
+    let mut list = vec![0; PARTICIPANTS];
+    let mut left = winners;
+    while left > 0 {
+        let at = random.index(PARTICIPANTS);
+        if list[at] == 0 {
+            list[at] = random.between(1, 10_000);
+            left -= 1;
         }
-        total += *to;
     }
-    Ok(total)
+    list
 }

@@ -1,40 +1,25 @@
 //! Times the engine's calls beside plain Rust and the reference in one run, and
-//! checks that they agree. Each call is a feature, as an archive may not have it;
-//! writing and reading are also timed beside settling.
+//! checks that they agree. `timing::print_head` says what is printed.
 
-#[cfg(feature = "check")]
 mod check;
-#[cfg(any(feature = "check", feature = "hour"))]
-mod exercise;
-#[cfg(feature = "hour")]
 mod hour;
-#[cfg(feature = "load")]
 mod load;
-#[cfg(feature = "read")]
+mod plain;
+mod rate;
 mod read;
-#[cfg(any(feature = "split", feature = "load", feature = "hour"))]
-mod shares;
-#[cfg(feature = "split")]
 mod split;
 mod timing;
-#[cfg(feature = "write")]
 mod write;
 
 fn main() {
-    println!(
-        "nanoseconds a call, {} rounds each in turn: best, median",
-        timing::ROUNDS
-    );
-    #[cfg(feature = "split")]
+    timing::print_head();
     split::compare();
-    #[cfg(feature = "load")]
     load::compare();
-    #[cfg(feature = "check")]
-    check::compare();
-    #[cfg(feature = "hour")]
-    hour::compare();
-    #[cfg(feature = "write")]
-    write::compare();
-    #[cfg(feature = "read")]
-    read::compare();
+    let counted = hour::compare();
+    println!("the longest file: 64 x 64, 2,048 rows, 256 transactions with sellers");
+    let longest = hour::longest();
+    check::compare(&longest);
+    write::compare(&longest);
+    read::compare(&longest);
+    rate::print(&counted);
 }

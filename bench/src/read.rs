@@ -1,11 +1,11 @@
-//! wz_read_file beside plain Rust and beside settling the same hour.
+//! wz_read_file.
 
-use crate::exercise::{File, Row, SALE};
-use crate::hour::{longest, settle_beside};
-use crate::timing::{self, Answer, Case};
+use crate::plain;
+use crate::timing::{self, Case};
 use reference::cases;
+use reference::exercise::read_header;
 use reference::random::Random;
-use reference::read::read_file;
+use reference::read::{lens_of, read_file};
 
 extern "C" {
     fn wz_read_file(
@@ -35,6 +35,10 @@ impl Read {
 }
 
 impl Case for Read {
+    fn inputs(&self) -> Vec<&[u8]> {
+        vec![&self.file]
+    }
+
     fn out_len(&self) -> usize {
         self.lens.iter().sum()
     }
@@ -56,11 +60,8 @@ impl Case for Read {
         }
     }
 
-    fn plain(&self, out: &mut [u8]) -> u32 {
-        match read(&self.file, self.lists(out)) {
-            Ok(()) => 0,
-            Err(number) => number,
-        }
+    fn plain(&self, out: &mut [u8]) -> plain::Answer {
+        plain::read(&self.file, self.lists(out))
     }
 
     fn reference(&self, out: &mut [u8]) -> u32 {
@@ -77,91 +78,17 @@ impl Case for Read {
         let (file, lens) = cases::read::draw(turn, random);
         Read { file, lens }
     }
-
-    fn beside() -> Option<(&'static str, Answer<Read>)> {
-        Some(("settling", |case, out| settle_beside(&case.file, out)))
-    }
 }
 
-pub fn compare() {
+pub fn compare(files: &[Vec<u8>]) {
     timing::try_plain::<Read>();
-    let case = |hour: &cases::hour::Case| {
-        let file = hour.bytes();
-        let lens = File::new(&file).map(|file| file.list_lens());
-        let lens = lens.expect("an accepted file");
-        Read { file, lens }
+    let case = |file: &Vec<u8>| {
+        let header = read_header(file).expect("an accepted file");
+        Read {
+            file: file.clone(),
+            lens: lens_of(&header),
+        }
     };
-    let cases: Vec<Read> = longest().iter().map(case).collect();
-    timing::compare("reading the longest file", &cases);
-}
-
-/// Plain Rust: tested first, then listed.
-fn read(file: &[u8], lists: [&mut [u8]; 3]) -> Result<(), u32> {
-    let file = File::new(file)?;
-    let [prices, rows, transactions] = lists;
-    if [prices.len(), rows.len(), transactions.len()] != file.list_lens() {
-        return Err(1);
-    }
-    file.prices(|_, _| ())?;
-    file.rows(|_| ())?;
-    file.transactions(|_| ())?;
-
-    for (eight, price) in prices.chunks_exact_mut(8).zip(file.untested_prices()) {
-        put(eight, [i64::from(price)]);
-    }
-    for (six, row) in rows.chunks_exact_mut(48).zip(file.untested_rows()) {
-        put(six, row_numbers(&row));
-    }
-    if file.sells {
-        let sevens = transactions.chunks_exact_mut(8 * SALE);
-        for (seven, row) in sevens.zip(file.untested_sales()) {
-            put(seven, sale_numbers(&row));
-        }
-    } else {
-        let sixes = transactions.chunks_exact_mut(48);
-        for (six, row) in sixes.zip(file.untested_paths()) {
-            put(six, path_numbers(&row));
-        }
-    }
-    Ok(())
-}
-
-fn row_numbers(row: &Row) -> [i64; 6] {
-    [
-        row.real_time as i64,
-        row.kind as i64,
-        row.interval as i64,
-        row.participant as i64,
-        row.location as i64,
-        row.kw,
-    ]
-}
-
-fn sale_numbers(row: &Row) -> [i64; 7] {
-    [
-        row.real_time as i64,
-        row.interval as i64,
-        row.participant as i64,
-        row.seller as i64,
-        row.location as i64,
-        row.sink as i64,
-        row.kw,
-    ]
-}
-
-fn path_numbers(row: &Row) -> [i64; 6] {
-    [
-        row.real_time as i64,
-        row.interval as i64,
-        row.participant as i64,
-        row.location as i64,
-        row.sink as i64,
-        row.kw,
-    ]
-}
-
-fn put<const COUNT: usize>(list: &mut [u8], numbers: [i64; COUNT]) {
-    for (eight, number) in list.chunks_exact_mut(8).zip(numbers) {
-        eight.copy_from_slice(&number.to_le_bytes());
-    }
+    let cases: Vec<Read> = files.iter().map(case).collect();
+    timing::compare("read", &cases);
 }

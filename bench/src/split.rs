@@ -1,11 +1,10 @@
-//! wz_split beside plain Rust.
+//! wz_split.
 
-use crate::shares::{self, number, Step, PARTIES};
-use crate::timing::{self, Case};
+use crate::plain;
+use crate::timing::{self, Case, INPUTS};
 use reference::random::Random;
 use reference::{cases, numbers};
 
-const CASES: usize = 1_000;
 const MOST: i64 = 4_000_000_000;
 
 timing::engines!(
@@ -51,6 +50,10 @@ impl Split {
 }
 
 impl Case for Split {
+    fn inputs(&self) -> Vec<&[u8]> {
+        vec![&self.shares]
+    }
+
     fn out_len(&self) -> usize {
         self.out_len
     }
@@ -64,8 +67,8 @@ impl Case for Split {
         Some(|case, out| case.call(before_wz_split, out))
     }
 
-    fn plain(&self, out: &mut [u8]) -> u32 {
-        split(self.amount, &self.shares, out)
+    fn plain(&self, out: &mut [u8]) -> plain::Answer {
+        plain::split(self.amount, &self.shares, out)
     }
 
     fn reference(&self, out: &mut [u8]) -> u32 {
@@ -85,11 +88,11 @@ impl Case for Split {
 type Draw = fn(usize, &mut Random) -> Split;
 
 const FAMILIES: [(&str, Draw); 7] = [
-    ("random shares", random_shares),
-    ("equal shares", equal_shares),
-    ("shares of two values", two_values),
-    ("equal shares, one of them 0", equal_but_one),
-    ("shares that are nearly equal", nearly_equal),
+    ("random", random_shares),
+    ("equal", equal_shares),
+    ("of two values", two_values),
+    ("equal, one of them 0", equal_but_one),
+    ("nearly equal", nearly_equal),
     ("one unit left", |count, random| left(1, count, random)),
     ("all but one left", |count, random| {
         left(count - 1, count, random)
@@ -99,10 +102,11 @@ const FAMILIES: [(&str, Draw); 7] = [
 pub fn compare() {
     timing::try_plain::<Split>();
     for count in [3, 16, 64] {
+        println!("split over {count} shares");
         for (name, draw) in FAMILIES {
             let mut random = Random::new(count as u64);
-            let cases: Vec<Split> = (0..CASES).map(|_| draw(count, &mut random)).collect();
-            timing::compare(&format!("split over {count}: {name}"), &cases);
+            let cases: Vec<Split> = (0..INPUTS).map(|_| draw(count, &mut random)).collect();
+            timing::compare(name, &cases);
         }
     }
 }
@@ -167,42 +171,4 @@ fn left(units: usize, count: usize, random: &mut Random) -> Split {
         })
         .collect();
     Split::new(random.pick(&[size, -size]), &shares)
-}
-
-/// Plain Rust.
-fn split(amount: i64, shares: &[u8], out: &mut [u8]) -> u32 {
-    let eights = shares.chunks_exact(8);
-    let count = eights.len();
-    if !eights.remainder().is_empty() || out.len() != shares.len() {
-        return 1;
-    }
-    if count == 0 || count > PARTIES {
-        return 1;
-    }
-    let size = amount.unsigned_abs();
-    if size > 1_000_000_000 {
-        return 2;
-    }
-    let shares = eights.map(|eight| number(eight) as u64);
-    let mut total = 0;
-    for share in shares.clone() {
-        if share > 4_000_000_000 {
-            return 2;
-        }
-        total += share;
-    }
-    if total == 0 {
-        if amount != 0 {
-            return 7;
-        }
-        out.fill(0);
-        return 0;
-    }
-    shares::split(size, shares, total, |party, units, step| {
-        let part = &mut out[8 * party..8 * party + 8];
-        let before = if step == Step::First { 0 } else { number(part) };
-        let sum = before + amount.signum() * units;
-        part.copy_from_slice(&sum.to_le_bytes());
-    });
-    0
 }

@@ -1,7 +1,7 @@
 -- What the widths let a header say, and the order over the stretches of a file, as loops go through them. Assumes nothing.
 use mathlib.Core.Bool.{Bool}
 use mathlib.Core.List.{List}
-use Prim.Native.Nat.{ℕ, _≤_}
+use Prim.Native.Nat.{ℕ, _+_, _≤_}
 use lib.IntN.{ℤ}
 use Rattle.ints.specs.Refusal.{pick, unless}
 use Rattle.ints.specs.Turn.{_then_, inTurn}
@@ -38,6 +38,10 @@ priceRefusal price = unless (isPrice price) 2 0
 
 abbrev pub pricesInRefusal : List ℕ → ℕ → ℕ
 pricesInRefusal s n = inTurn (λ j. priceRefusal (priceAt s j)) n
+
+-- of n prices from price j on
+abbrev pub pricesFromRefusal : List ℕ → ℕ → ℕ → ℕ
+pricesFromRefusal s j n = inTurn (λ i. priceRefusal (priceAt s (j + i))) n
 
 abbrev pub rowsInRefusal : ℕ → ℕ → List ℕ → ℕ → ℕ
 rowsInRefusal participants locations s n = inTurn (rowRefusalAt participants locations s) n

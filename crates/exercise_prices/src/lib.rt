@@ -2,21 +2,18 @@
 ghost use mathlib.Core.Path.{_≡_};
 ghost use Prim.Native.Nat.{_+_, _*_, _≤_, _<_};
 ghost use lib.ListN.{length};
+ghost use Rattle.ints.specs.InsideRange.{Within};
 ghost use Rattle.ints.specs.Twos.{twos};
 ghost use Rattle.exercise.specs.File.{priceAt, pricesFrom};
-ghost use Rattle.exercise.specs.Inside.{pricesInRefusal};
+ghost use Rattle.exercise.specs.Inside.{pricesInRefusal, pricesFromRefusal};
 use units::Mills;
 
-// The number of 24 bits. `!x` is -x - 1.
+// The number of 24 bits: moved up by half of their patterns, they are in the numbers' order.
 fn from_bits(u: u64) -> i64
     requires { ⌜ u < 16777216 ⌝ }
-    ensures { λ r. ⌜ r ≡ twos 24 u ⌝ }
+    ensures { λ r. ⌜ (r ≡ twos 24 u) × Within r 8388608 ⌝ }
 {
-    if u < 8388608 {
-        u as i64
-    } else {
-        !((16777215 - u) as i64)
-    }
+    ((u + 8388608) % 16777216) as i64 - 8388608
 }
 
 // Price j of a stretch of prices.
@@ -27,27 +24,21 @@ pub fn price_at(prices: &[u8], j: usize) -> Mills
     Mills(from_bits(exercise_rows::three_at(prices, 3 * j)))
 }
 
-// A list of prices, read from price j of a stretch on.
-fn read_prices(prices: &[u8], j: usize, list: &mut [i64])
+// A price list, read from price j of a stretch on: its refusal, or 0. It goes to the list's end in any case, and a price that is refused is read, too.
+pub fn read_list(prices: &[u8], j: usize, list: &mut [i32]) -> u32
     requires { ⌜ 3 * (j + length (now list)) ≤ length (now prices) ⌝ }
+    ensures { λ r. ⌜ r ≡ pricesFromRefusal (now (prices .entry)) j (length (now (list .entry))) ⌝ }
     ensures { λ _. ⌜ now (list .exit) ≡ pricesFrom (now (prices .entry)) j (length (now (list .entry))) ⌝ }
 {
+    let mut passed = true;
     let mut i: usize = 0;
     while i < list.len() {
-        let price = price_at(prices, j + i).0;
-        list[i] = price;
+        let price = from_bits(exercise_rows::three_at(prices, 3 * (j + i)));
+        list[i] = price as i32;
+        passed = ints::both(passed, ints::is_between(price, -5_000_000, 5_000_000));
         i += 1;
     }
-}
-
-// All prices, read into a table, and their refusal, 0 where there is none.
-pub fn read_table(prices: &[u8], table: &mut [i64]) -> u32
-    requires { ⌜ 3 * length (now table) ≤ length (now prices) ⌝ }
-    ensures { λ r. ⌜ r ≡ pricesInRefusal (now (prices .entry)) (length (now (table .entry))) ⌝ }
-    ensures { λ _. ⌜ now (table .exit) ≡ pricesFrom (now (prices .entry)) 0 (length (now (table .entry))) ⌝ }
-{
-    read_prices(prices, 0, table);
-    if ints::all_between(table, -5_000_000, 5_000_000) {
+    if passed {
         return 0;
     }
     2

@@ -1,13 +1,12 @@
 -- From the exact totals and shares of an hour to its output lists. Assumes nothing.
-use mathlib.Core.Path.{_≡_, refl, sym, ap, ap₂, _∙_}
+use mathlib.Core.Path.{_≡_, refl, ap, ap₂, _∙_}
 use mathlib.Core.Bool.{Bool, true, false}
 use mathlib.Core.List.{List, [], _∷_}
-use Prim.Native.Nat.{ℕ, _+_, _≤_}
+use Prim.Native.Nat.{ℕ, _+_}
 use native.Mathlib.Omega.{arith}
 use lib.Dec.{eqb}
 use lib.IntN.{ℤ, pos, _+ℤ_, _-ℤ_}
-use lib.ListN.{length, take}
-use lib.Seq.{length-take-le, getD-take, ext-getD}
+use lib.ListN.{length}
 use lib.Signed.{leZ}
 use borrow.Author.Tests.{le-leb}
 use Rattle.ints.specs.InsideEvery.{owed}
@@ -15,7 +14,7 @@ use Rattle.ints.specs.Sum.{Σℤ, sumTo, only, sum}
 use Rattle.ints.specs.Table.{_at_, tab}
 use Rattle.ints.proofs.Gather.{every-tab}
 use Rattle.ints.proofs.Sums.{sumTo-ext}
-use Rattle.ints.proofs.Tables.{length-tab, getD-tab, tab-ext}
+use Rattle.ints.proofs.Tables.{length-tab, getD-tab, tab-ext, tab-self}
 use Rattle.units.specs.Units.{centsOf}
 use Rattle.split.specs.Split.{parts}
 use Rattle.hour.specs.Charges.{exactCongestion, exactLoss, congestionCharge, lossCharge, congestionCharges, lossCharges}
@@ -24,18 +23,10 @@ use Rattle.hour.specs.InsideTotals.{Charged, Shared, rounded, netAt, net
 use Rattle.hour.specs.Order.{surplusRefusal}
 use Rattle.hour.specs.Surplus.{surplus, isShare, shareKw, shareOf, shares, credits, nets}
 
--- ---- lists of 64 totals
+-- ---- lists of totals
 
-pub by-numbers : (f : ℕ → ℤ) {xs : List ℤ} → length xs ≡ 64 → ((p : ℕ) → xs at p ≡ f p) → xs ≡ tab f 64
-by-numbers f {xs} l h =
-    ext-getD (pos 0) xs (tab f 64) (l ∙ sym (length-tab f 64))
-    (λ p m. h p ∙ sym (getD-tab f (pos 0) 64 p (omega (arith, l))))
-
-front : (f : ℕ → ℤ) (n : ℕ) → n ≤ 64 → take n (tab f 64) ≡ tab f n
-front f n l =
-    let k = length-take-le n (tab f 64) (omega (arith, length-tab f 64)) in
-    ext-getD (pos 0) (take n (tab f 64)) (tab f n) (k ∙ sym (length-tab f n))
-    (λ p m. getD-take n (tab f 64) p (pos 0) (omega (arith, k)) ∙ getD-tab f (pos 0) 64 p (omega (arith, k)) ∙ sym (getD-tab f (pos 0) n p (omega (arith, k))))
+by-numbers : (f : ℕ → ℤ) {xs : List ℤ} → ((p : ℕ) → xs at p ≡ f p) → xs ≡ tab f (length xs)
+by-numbers f {xs} h = tab-self (pos 0) xs ∙ tab-ext _ _ (length xs) (λ p _. h p)
 
 -- totals, rounded
 rounded-tab : (f : ℕ → ℤ) (n : ℕ) → rounded (tab f n) ≡ tab (λ p. centsOf (f p)) n
@@ -43,30 +34,30 @@ unfolding rounded
 rounded-tab f n = ap (tab (λ p. centsOf (tab f n at p))) (length-tab f n) ∙ tab-ext _ _ n (λ p l. ap centsOf (getD-tab f (pos 0) n p l))
 
 -- the totals and shares of an hour are lists by the tariff
-module _ (hour : Hour) {totals : List ℤ} (l : length totals ≡ 64) where
-  pub congestion-totals : Charged (hour .edition) (congestionPrices hour) (hour .rows) (hour .transactions) totals → totals ≡ tab (exactCongestion hour) 64
-  congestion-totals c = by-numbers (exactCongestion hour) l (c .each)
+module _ (hour : Hour) {totals : List ℤ} where
+  pub congestion-totals : Charged (hour .edition) (congestionPrices hour) (hour .rows) (hour .transactions) totals → totals ≡ tab (exactCongestion hour) (length totals)
+  congestion-totals c = by-numbers (exactCongestion hour) (c .each)
 
-  pub loss-totals : Charged (hour .edition) (lossPrices hour) (hour .rows) (hour .transactions) totals → totals ≡ tab (exactLoss hour) 64
-  loss-totals c = by-numbers (exactLoss hour) l (c .each)
+  pub loss-totals : Charged (hour .edition) (lossPrices hour) (hour .rows) (hour .transactions) totals → totals ≡ tab (exactLoss hour) (length totals)
+  loss-totals c = by-numbers (exactLoss hour) (c .each)
 
-  pub share-totals : Shared (hour .rows) totals → totals ≡ tab (shareOf hour) 64
+  pub share-totals : Shared (hour .rows) totals → totals ≡ tab (shareOf hour) (length totals)
   unfolding owed
-  share-totals c = by-numbers (shareOf hour) l (c .each)
+  share-totals c = by-numbers (shareOf hour) (c .each)
 
--- .. and their fronts are what is billed
-module _ (hour : Hour) (n : ℕ) (is : n ≡ hour .participants) (few : n ≤ 64) where
-  pub congestion-charges : {totals : List ℤ} → totals ≡ tab (exactCongestion hour) 64 → rounded (take n totals) ≡ congestionCharges hour
+-- .. and with one for each participant they are what is billed
+module _ (hour : Hour) {n : ℕ} (is : n ≡ hour .participants) {totals : List ℤ} where
+  pub congestion-charges : totals ≡ tab (exactCongestion hour) n → rounded totals ≡ congestionCharges hour
   unfolding congestionCharges
-  congestion-charges e = ap (λ (xs : List ℤ). rounded (take n xs)) e ∙ ap rounded (front (exactCongestion hour) n few) ∙ rounded-tab (exactCongestion hour) n ∙ ap (tab (congestionCharge hour)) is
+  congestion-charges e = ap rounded e ∙ rounded-tab (exactCongestion hour) n ∙ ap (tab (congestionCharge hour)) is
 
-  pub loss-charges : {totals : List ℤ} → totals ≡ tab (exactLoss hour) 64 → rounded (take n totals) ≡ lossCharges hour
+  pub loss-charges : totals ≡ tab (exactLoss hour) n → rounded totals ≡ lossCharges hour
   unfolding lossCharges
-  loss-charges e = ap (λ (xs : List ℤ). rounded (take n xs)) e ∙ ap rounded (front (exactLoss hour) n few) ∙ rounded-tab (exactLoss hour) n ∙ ap (tab (lossCharge hour)) is
+  loss-charges e = ap rounded e ∙ rounded-tab (exactLoss hour) n ∙ ap (tab (lossCharge hour)) is
 
-  pub the-shares : {totals : List ℤ} → totals ≡ tab (shareOf hour) 64 → take n totals ≡ shares hour
+  pub the-shares : totals ≡ tab (shareOf hour) n → totals ≡ shares hour
   unfolding shares
-  the-shares e = ap (take n) e ∙ front (shareOf hour) n few ∙ ap (tab (shareOf hour)) is
+  the-shares e = e ∙ ap (tab (shareOf hour)) is
 
 -- ---- no share is below 0
 

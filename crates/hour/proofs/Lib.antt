@@ -11,3 +11,4 @@ pub mod Billed
 pub mod Causes
 pub mod Theorems
 pub mod Each
+pub mod Weighed

@@ -4,9 +4,8 @@ use mathlib.Core.Bool.{Bool, true, false}
 use Prim.Native.Nat.{ℕ, zero, suc, _%_, _<_}
 use native.Mathlib.Nat.{one-mul}
 use native.Mathlib.Omega.{arith}
-use lib.IntN.{ℤ, pos, negℤ, _*ℤ_}
+use lib.IntN.{pos, negℤ, _*ℤ_}
 use Rattle.ints.specs.InsideRange.{Within}
-use Rattle.ints.proofs.Diff.{*ℤ-negl}
 use Rattle.ints.proofs.Sizes.{w-lit}
 use Rattle.hour.specs.Hour.{withdraws}
 use Rattle.hour.specs.InsideParts.{sign}
@@ -29,14 +28,13 @@ odd (suc (suc (suc (suc zero)))) h e = absurd (e refl)
 odd (suc (suc (suc (suc (suc zero))))) h e = refl
 odd (suc (suc (suc (suc (suc (suc n)))))) h e = absurd (omega arith)
 
-module _ (kind n : ℕ) (w : ℤ) (h : kind < 6) where
-  pub charged : kind % 2 ≡ 0 → pos n *ℤ w ≡ sign (withdraws kind) *ℤ pos n *ℤ w
-  charged e = ap (λ (z : ℤ). z *ℤ w) (ap pos (sym (one-mul n)) ∙ ap (λ (b : Bool). sign b *ℤ pos n) (sym (even kind h e)))
+-- kW with the sign of what is withdrawn less what is injected
+module _ (kind n : ℕ) (h : kind < 6) where
+  pub withdrawn : kind % 2 ≡ 0 → pos n ≡ sign (withdraws kind) *ℤ pos n
+  withdrawn e = ap pos (sym (one-mul n)) ∙ ap (λ (b : Bool). sign b *ℤ pos n) (sym (even kind h e))
 
-  pub reimbursed : (kind % 2 ≡ 0 → ⊥) → negℤ (pos n *ℤ w) ≡ sign (withdraws kind) *ℤ pos n *ℤ w
-  reimbursed e =
-      sym (*ℤ-negl (pos n) w)
-      ∙ ap (λ (z : ℤ). z *ℤ w) (ap (λ (m : ℕ). negℤ (pos m)) (sym (one-mul n)) ∙ ap (λ (b : Bool). sign b *ℤ pos n) (sym (odd kind h e)))
+  pub injected : (kind % 2 ≡ 0 → ⊥) → negℤ (pos n) ≡ sign (withdraws kind) *ℤ pos n
+  injected e = ap (λ (m : ℕ). negℤ (pos m)) (sym (one-mul n)) ∙ ap (λ (b : Bool). sign b *ℤ pos n) (sym (odd kind h e))
 
 pub sign-within : (b : Bool) → Within (sign b) 1
 sign-within true = w-lit tt

@@ -2,7 +2,7 @@
 use mathlib.Core.Path.{_≡_, refl}
 use mathlib.Core.Logic.{inl, inr}
 use mathlib.Core.Bool.{Bool, true, false, _&&_}
-use Prim.Native.Nat.{ℕ, _≤_, _<_}
+use Prim.Native.Nat.{ℕ, _+_, _≤_, _<_}
 use native.Mathlib.Omega.{arith}
 use lib.Dec.{ltb, leb, eqb}
 use borrow.Author.Tests.{ltb-true, leb-true, eqb-true}
@@ -33,6 +33,11 @@ kinds market kind = by (eqb market 0) refl
 pub interval-below : {market interval : ℕ} → Timed market interval → interval < 12
 interval-below (inl h) = omega arith
 interval-below (inr h) = h .1
+
+-- day-ahead, then each interval
+pub stage-below : {market interval : ℕ} → Timed market interval → market + interval < 13
+stage-below (inl h) = omega arith
+stage-below (inr h) = omega arith
 
 -- ---- a row, a transaction
 

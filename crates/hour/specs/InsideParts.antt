@@ -1,16 +1,17 @@
 -- What one position, and one transaction, adds to its participant's charge: kW times a weight that is computed once a location. The fast form of the charges, which
 -- proofs/Theorem.antt joins to the tariff's. Assumes nothing.
 use mathlib.Core.Bool.{Bool, _||_}
-use mathlib.Core.List.{List}
-use Prim.Native.Nat.{ℕ, _<_}
+use mathlib.Core.List.{List, _++_}
+use Prim.Native.Nat.{ℕ, _+_, _*_, _<_}
 use lib.Dec.{eqb}
+use lib.ListN.{take, drop}
 use lib.IntN.{ℤ, pos, negsuc, negℤ, _+ℤ_, _-ℤ_, _*ℤ_}
 use Rattle.ints.specs.InsideEvery.{keep, toOwner, owed}
 use Rattle.ints.specs.Refusal.{pick}
 use Rattle.ints.specs.Sum.{sumTo}
-use Rattle.ints.specs.Table.{_at_}
+use Rattle.ints.specs.Table.{_at_, tab}
 use Rattle.hour.specs.Charges.{P, C}
-use Rattle.hour.specs.Hour.{dayAhead, Prices, intervalOf, Position}
+use Rattle.hour.specs.Hour.{dayAhead, Prices, priceList, Position}
 use Rattle.hour.specs.InsideTested.{Timed}
 use Rattle.hour.specs.declared.Edition.{Edition}
 use Rattle.hour.specs.declared.Edition.the-variants as Edition
@@ -29,9 +30,21 @@ aheadWeight prices l = pos 12 *ℤ P prices l -ℤ sumTo (λ k. C prices k l) 12
 abbrev pub weight : Prices → ℕ → ℕ → ℕ → ℤ
 weight prices market interval l = pick (eqb market dayAhead) (aheadWeight prices l) (C prices interval l)
 
--- the same from a table of day-ahead weights and the real-time prices
-abbrev pub weightIn : List ℤ → List ℤ → ℕ → ℕ → ℕ → ℕ → ℤ
-weightIn weights real locations market interval l = pick (eqb market dayAhead) (weights at l) (intervalOf real locations interval at l)
+-- ---- the table that rows and transactions are weighed by, one for congestion and one for losses
+
+-- a price list as it stands in a file: for each location its day-ahead price, then the real-time prices, interval by interval
+abbrev pub listedPrices : ℕ → List ℤ → Prices
+listedPrices locations list = priceList locations (take locations list) (drop locations list)
+
+-- its table: what a day-ahead kW counts at each location, in the place of its day-ahead price
+abbrev pub weighed : ℕ → List ℤ → List ℤ
+weighed locations list = tab (aheadWeight (listedPrices locations list)) locations ++ drop locations list
+
+-- what a kW counts by the table. Day-ahead is market 0 and has interval 0, real time is market 1: so one place serves both
+abbrev pub weightIn : List ℤ → ℕ → ℕ → ℕ → ℕ → ℤ
+weightIn table locations market interval l = table at ((market + interval) * locations + l)
+
+-- ---- what is added
 
 unfoldable pub positionPart : Prices → Position → ℤ
 positionPart prices x = sign (x .withdrawal) *ℤ pos (x .kw) *ℤ weight prices (x .market) (x .interval) (x .location)

@@ -1,2 +1,3 @@
 pub mod Hours
 pub mod Unique
+pub mod Fronts

@@ -28,7 +28,6 @@ module _ (file : List ℕ) (passes : frameRefusal file ≡ 0) (h : Header) (e : 
       let w = whole file passes in
       let s = small-read file h e in
       record {
-        participants = s .participants;
         locations = s .locations;
         few-rows = omega (arith, ap (λ (g : Header). g .rows) e, w .rows);
         few-transactions = omega (arith, ap (λ (g : Header). g .transactions) e, w .transactions);

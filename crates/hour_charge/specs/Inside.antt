@@ -1,10 +1,11 @@
 -- What the functions that charge an hour hand to one another. Assumes nothing.
 use mathlib.Core.Path.{_≡_}
 use mathlib.Core.List.{List}
-use Prim.Native.Nat.{ℕ, _*_, _-_, _≤_}
+use Prim.Native.Nat.{ℕ, _*_, _≤_}
 use lib.IntN.{ℤ, _+ℤ_}
-use lib.ListN.{length, take, drop}
+use lib.ListN.{length}
 use Rattle.ints.specs.InsideEvery.{toOwner, owed, Added}
+use Rattle.ints.specs.InsideRange.{InRange}
 use Rattle.ints.specs.Sum.{Σℤ}
 use Rattle.ints.specs.Table.{_at_}
 use Rattle.exercise.specs.Layout.{transactionSize, editionOf}
@@ -19,40 +20,37 @@ use Rattle.hour.specs.InsideTotals.{Charged}
 use Rattle.hour_totals.specs.Inside.{partIn}
 use Rattle.hour.specs.Surplus.{shareKw}
 
+-- ---- a total for each participant, within a bound
+
+pub record Totals (participants : ℕ) (totals : List ℤ) (k : ℕ) : Type 0 where
+  pub long : participants ≤ length totals
+  pub range : InRange totals k
+
 -- ---- every participant's total with what its rows, or transactions, add
 
-abbrev pub RowsAdded : List Row → ℕ → List ℤ → List ℤ → List ℤ → List ℤ → Type 0
-RowsAdded rows locations weights real before after = Added (toOwner (λ r. r .participant) (partIn weights real locations)) rows before after
+abbrev pub RowsAdded : List Row → ℕ → List ℤ → List ℤ → List ℤ → Type 0
+RowsAdded rows locations table before after = Added (toOwner (λ r. r .participant) (partIn table locations)) rows before after
 
 abbrev pub SharesAdded : List Row → List ℤ → List ℤ → Type 0
 SharesAdded rows before after = Added (toOwner (λ r. r .participant) shareKw) rows before after
 
-abbrev pub TransactionsAdded : Edition → List Transaction → ℕ → List ℤ → List ℤ → List ℤ → List ℤ → Type 0
-TransactionsAdded edition transactions locations weights real before after = Added (addsTo edition (weightIn weights real locations)) transactions before after
+abbrev pub TransactionsAdded : Edition → List Transaction → ℕ → List ℤ → List ℤ → List ℤ → Type 0
+TransactionsAdded edition transactions locations table before after = Added (addsTo edition (weightIn table locations)) transactions before after
 
 -- rows, then transactions: what they add to totals that were 0
-pub record BothAdded (h : Header) (rows transactions : List ℕ) (weights real totals : List ℤ) : Type 0 where
+pub record BothAdded (h : Header) (rows transactions : List ℕ) (table totals : List ℤ) : Type 0 where
   pub each : (p : ℕ) → totals at p
-      ≡ owed (λ r. r .participant) (partIn weights real (h .locations)) (rowsIn rows (h .rows)) p
-      +ℤ Σℤ (λ t. addsTo (editionOf (h .edition)) (weightIn weights real (h .locations)) t p) (transactionsIn (editionOf (h .edition)) transactions (h .transactions))
+      ≡ owed (λ r. r .participant) (partIn table (h .locations)) (rowsIn rows (h .rows)) p
+      +ℤ Σℤ (λ t. addsTo (editionOf (h .edition)) (weightIn table (h .locations)) t p) (transactionsIn (editionOf (h .edition)) transactions (h .transactions))
 
 -- the rows and transactions of two stretches, charged
 abbrev pub ChargedIn : Header → Prices → List ℕ → List ℕ → List ℤ → Type 0
 ChargedIn h prices rows transactions totals =
     Charged (editionOf (h .edition)) prices (rowsIn rows (h .rows)) (transactionsIn (editionOf (h .edition)) transactions (h .transactions)) totals
 
--- ---- a table of all prices of so many locations: the two price lists
-
-abbrev pub congestionCut : ℕ → List ℤ → Prices
-congestionCut n table = priceList n (take (n - 0) (drop 0 table)) (take (13 * n - n) (drop n table))
-
-abbrev pub lossCut : ℕ → List ℤ → Prices
-lossCut n table = priceList n (take (14 * n - 13 * n) (drop (13 * n) table)) (take (26 * n - 14 * n) (drop (14 * n) table))
-
 -- ---- the parts of a file
 
 pub record Stretches (h : Header) (prices rows transactions : List ℕ) : Type 0 where
-  pub participants : h .participants ≤ 64
   pub locations : h .locations ≤ 64
   pub few-rows : h .rows ≤ 2048
   pub few-transactions : h .transactions ≤ 256

@@ -5,14 +5,14 @@ ghost use lib.ListN.{length};
 ghost use Rattle.ints.specs.InsideRange.{InRange};
 ghost use Rattle.ints.specs.Refusal.{lent};
 ghost use Rattle.ints.specs.Table.{tab};
-ghost use Rattle.exercise.specs.File.{rowsIn, transactionsIn, priceCount, hourOf};
+ghost use Rattle.exercise.specs.File.{rowsIn, transactionsIn, hourOf};
 ghost use Rattle.exercise.specs.Layout.{transactionSize, editionOf};
 ghost use Rattle.exercise.specs.Order.{frameRefusal, spareOf};
-ghost use Rattle.hour.specs.Hour.{priceList, congestionPrices, lossPrices};
-ghost use Rattle.hour_weights.specs.Inside.{PriceLists, Tables};
-ghost use Rattle.hour_totals.specs.Inside.{Totals};
+ghost use Rattle.hour.specs.Hour.{congestionPrices, lossPrices};
+ghost use Rattle.hour.specs.InsideParts.{listedPrices};
+ghost use Rattle.hour_weights.specs.Inside.{Listed, Table};
 ghost use Rattle.hour.specs.InsideTotals.{rowsMost, Charged, Shared};
-ghost use Rattle.hour_charge.specs.Inside.{RowsAdded, SharesAdded, TransactionsAdded, BothAdded, ChargedIn, congestionCut, lossCut, Stretches, congestionIn, lossIn};
+ghost use Rattle.hour_charge.specs.Inside.{Totals, RowsAdded, SharesAdded, TransactionsAdded, BothAdded, ChargedIn, Stretches, congestionIn, lossIn};
 ghost use Rattle.hour.specs.Charges.{exactCongestion, exactLoss};
 ghost use Rattle.hour.specs.Surplus.{shareOf};
 ghost use Rattle.exercise.specs.Inside.{rowsInRefusal, transactionsInRefusal, bothRefusal, stretchesRefusal};
@@ -30,20 +30,18 @@ fn charge_rows(
     locations: usize,
     rows: &[u8],
     n: usize,
-    congestion_weights: &[i64],
-    congestion_real: &[i64],
-    loss_weights: &[i64],
-    loss_real: &[i64],
+    congestion: &[i32],
+    loss: &[i32],
     exact_congestion: &mut [i64],
     exact_loss: &mut [i64],
     shares: &mut [i64],
 ) -> u32
-    requires { ⌜ (participants ≤ 64) × (n ≤ 2048) × (6 * n ≤ length (now rows)) ⌝ }
-    requires { ⌜ Tables locations (now «congestion_weights») (now «congestion_real») × Tables locations (now «loss_weights») (now «loss_real») ⌝ }
-    requires { ⌜ Totals (now «exact_congestion») 0 × Totals (now «exact_loss») 0 × Totals (now shares) 0 ⌝ }
+    requires { ⌜ (n ≤ 2048) × (6 * n ≤ length (now rows)) ⌝ }
+    requires { ⌜ Table locations (now congestion) × Table locations (now loss) ⌝ }
+    requires { ⌜ Totals participants (now «exact_congestion») 0 × Totals participants (now «exact_loss») 0 × Totals participants (now shares) 0 ⌝ }
     ensures { λ r. ⌜ r ≡ rowsInRefusal participants locations (now (rows .entry)) n ⌝ }
-    ensures { λ r. ⌜ (r ≡ 0 → RowsAdded (rowsIn (now (rows .entry)) n) locations (now («congestion_weights» .entry)) (now («congestion_real» .entry)) (now («exact_congestion» .entry)) (now («exact_congestion» .exit)) × InRange (now («exact_congestion» .exit)) rowsMost) ⌝ }
-    ensures { λ r. ⌜ (r ≡ 0 → RowsAdded (rowsIn (now (rows .entry)) n) locations (now («loss_weights» .entry)) (now («loss_real» .entry)) (now («exact_loss» .entry)) (now («exact_loss» .exit)) × InRange (now («exact_loss» .exit)) rowsMost) ⌝ }
+    ensures { λ r. ⌜ (r ≡ 0 → RowsAdded (rowsIn (now (rows .entry)) n) locations (now (congestion .entry)) (now («exact_congestion» .entry)) (now («exact_congestion» .exit)) × InRange (now («exact_congestion» .exit)) rowsMost) ⌝ }
+    ensures { λ r. ⌜ (r ≡ 0 → RowsAdded (rowsIn (now (rows .entry)) n) locations (now (loss .entry)) (now («exact_loss» .entry)) (now («exact_loss» .exit)) × InRange (now («exact_loss» .exit)) rowsMost) ⌝ }
     ensures { λ r. ⌜ (r ≡ 0 → SharesAdded (rowsIn (now (rows .entry)) n) (now (shares .entry)) (now (shares .exit))) ⌝ }
 {
     let mut i: usize = 0;
@@ -52,14 +50,8 @@ fn charge_rows(
         let DecodedRow::Decoded(row) = decoded else {
             return exercise_rows::decoded_row_refusal(decoded);
         };
-        hour_totals::add_row(
-            row,
-            locations,
-            congestion_weights,
-            congestion_real,
-            exact_congestion,
-        );
-        hour_totals::add_row(row, locations, loss_weights, loss_real, exact_loss);
+        hour_totals::add_row(row, locations, congestion, exact_congestion);
+        hour_totals::add_row(row, locations, loss, exact_loss);
         hour_totals::add_share(row, shares);
         i += 1;
     }
@@ -73,19 +65,17 @@ fn charge_transactions(
     locations: usize,
     transactions: &[u8],
     n: usize,
-    congestion_weights: &[i64],
-    congestion_real: &[i64],
-    loss_weights: &[i64],
-    loss_real: &[i64],
+    congestion: &[i32],
+    loss: &[i32],
     exact_congestion: &mut [i64],
     exact_loss: &mut [i64],
 ) -> u32
-    requires { ⌜ (participants ≤ 64) × (n ≤ 256) × (transactionSize edition * n ≤ length (now transactions)) ⌝ }
-    requires { ⌜ Tables locations (now «congestion_weights») (now «congestion_real») × Tables locations (now «loss_weights») (now «loss_real») ⌝ }
-    requires { ⌜ Totals (now «exact_congestion») rowsMost × Totals (now «exact_loss») rowsMost ⌝ }
+    requires { ⌜ (n ≤ 256) × (transactionSize edition * n ≤ length (now transactions)) ⌝ }
+    requires { ⌜ Table locations (now congestion) × Table locations (now loss) ⌝ }
+    requires { ⌜ Totals participants (now «exact_congestion») rowsMost × Totals participants (now «exact_loss») rowsMost ⌝ }
     ensures { λ r. ⌜ r ≡ transactionsInRefusal edition participants locations (now (transactions .entry)) n ⌝ }
-    ensures { λ r. ⌜ (r ≡ 0 → TransactionsAdded edition (transactionsIn edition (now (transactions .entry)) n) locations (now («congestion_weights» .entry)) (now («congestion_real» .entry)) (now («exact_congestion» .entry)) (now («exact_congestion» .exit))) ⌝ }
-    ensures { λ r. ⌜ (r ≡ 0 → TransactionsAdded edition (transactionsIn edition (now (transactions .entry)) n) locations (now («loss_weights» .entry)) (now («loss_real» .entry)) (now («exact_loss» .entry)) (now («exact_loss» .exit))) ⌝ }
+    ensures { λ r. ⌜ (r ≡ 0 → TransactionsAdded edition (transactionsIn edition (now (transactions .entry)) n) locations (now (congestion .entry)) (now («exact_congestion» .entry)) (now («exact_congestion» .exit))) ⌝ }
+    ensures { λ r. ⌜ (r ≡ 0 → TransactionsAdded edition (transactionsIn edition (now (transactions .entry)) n) locations (now (loss .entry)) (now («exact_loss» .entry)) (now («exact_loss» .exit))) ⌝ }
 {
     let mut i: usize = 0;
     while i < n {
@@ -103,18 +93,10 @@ fn charge_transactions(
             edition,
             transaction,
             locations,
-            congestion_weights,
-            congestion_real,
+            congestion,
             exact_congestion,
         );
-        hour_totals::add_transaction(
-            edition,
-            transaction,
-            locations,
-            loss_weights,
-            loss_real,
-            exact_loss,
-        );
+        hour_totals::add_transaction(edition, transaction, locations, loss, exact_loss);
         i += 1;
     }
     0
@@ -125,20 +107,18 @@ fn charge_both(
     header: Header,
     rows: &[u8],
     transactions: &[u8],
-    congestion_weights: &[i64],
-    congestion_real: &[i64],
-    loss_weights: &[i64],
-    loss_real: &[i64],
+    congestion: &[i32],
+    loss: &[i32],
     exact_congestion: &mut [i64],
     exact_loss: &mut [i64],
     shares: &mut [i64],
 ) -> u32
-    requires { ⌜ (header .participants ≤ 64) × (header .rows ≤ 2048) × (header .transactions ≤ 256) × (6 * header .rows ≤ length (now rows)) × (transactionSize (editionOf (header .edition)) * header .transactions ≤ length (now transactions)) ⌝ }
-    requires { ⌜ Tables (header .locations) (now «congestion_weights») (now «congestion_real») × Tables (header .locations) (now «loss_weights») (now «loss_real») ⌝ }
-    requires { ⌜ Totals (now «exact_congestion») 0 × Totals (now «exact_loss») 0 × Totals (now shares) 0 ⌝ }
+    requires { ⌜ (header .rows ≤ 2048) × (header .transactions ≤ 256) × (6 * header .rows ≤ length (now rows)) × (transactionSize (editionOf (header .edition)) * header .transactions ≤ length (now transactions)) ⌝ }
+    requires { ⌜ Table (header .locations) (now congestion) × Table (header .locations) (now loss) ⌝ }
+    requires { ⌜ Totals (header .participants) (now «exact_congestion») 0 × Totals (header .participants) (now «exact_loss») 0 × Totals (header .participants) (now shares) 0 ⌝ }
     ensures { λ r. ⌜ r ≡ bothRefusal header (now (rows .entry)) (now (transactions .entry)) ⌝ }
-    ensures { λ r. ⌜ (r ≡ 0 → BothAdded header (now (rows .entry)) (now (transactions .entry)) (now («congestion_weights» .entry)) (now («congestion_real» .entry)) (now («exact_congestion» .exit))) ⌝ }
-    ensures { λ r. ⌜ (r ≡ 0 → BothAdded header (now (rows .entry)) (now (transactions .entry)) (now («loss_weights» .entry)) (now («loss_real» .entry)) (now («exact_loss» .exit))) ⌝ }
+    ensures { λ r. ⌜ (r ≡ 0 → BothAdded header (now (rows .entry)) (now (transactions .entry)) (now (congestion .entry)) (now («exact_congestion» .exit))) ⌝ }
+    ensures { λ r. ⌜ (r ≡ 0 → BothAdded header (now (rows .entry)) (now (transactions .entry)) (now (loss .entry)) (now («exact_loss» .exit))) ⌝ }
     ensures { λ r. ⌜ (r ≡ 0 → Shared (rowsIn (now (rows .entry)) (header .rows)) (now (shares .exit))) ⌝ }
 {
     let refusal = charge_rows(
@@ -146,10 +126,8 @@ fn charge_both(
         header.locations,
         rows,
         header.rows,
-        congestion_weights,
-        congestion_real,
-        loss_weights,
-        loss_real,
+        congestion,
+        loss,
         exact_congestion,
         exact_loss,
         shares,
@@ -163,91 +141,40 @@ fn charge_both(
         header.locations,
         transactions,
         header.transactions,
-        congestion_weights,
-        congestion_real,
-        loss_weights,
-        loss_real,
+        congestion,
+        loss,
         exact_congestion,
         exact_loss,
     )
 }
 
-// Rows and transactions at two price lists: the first refusal, or 0. The weights are made in the lists that are lent for
-// them.
+// Rows and transactions at two price lists: the first refusal, or 0. The tables come in the place of the lists.
 fn charge_listed(
     header: Header,
     rows: &[u8],
     transactions: &[u8],
-    congestion_ahead: &[i64],
-    congestion_real: &[i64],
-    loss_ahead: &[i64],
-    loss_real: &[i64],
-    congestion_weights: &mut [i64],
-    loss_weights: &mut [i64],
+    congestion: &mut [i32],
+    loss: &mut [i32],
     exact_congestion: &mut [i64],
     exact_loss: &mut [i64],
     shares: &mut [i64],
 ) -> u32
-    requires { ⌜ (header .participants ≤ 64) × (header .rows ≤ 2048) × (header .transactions ≤ 256) × (6 * header .rows ≤ length (now rows)) × (transactionSize (editionOf (header .edition)) * header .transactions ≤ length (now transactions)) ⌝ }
-    requires { ⌜ PriceLists (header .locations) (now «congestion_ahead») (now «congestion_real») × PriceLists (header .locations) (now «loss_ahead») (now «loss_real») ⌝ }
-    requires { ⌜ (length (now «congestion_weights») ≡ header .locations) × (length (now «loss_weights») ≡ header .locations) ⌝ }
-    requires { ⌜ Totals (now «exact_congestion») 0 × Totals (now «exact_loss») 0 × Totals (now shares) 0 ⌝ }
+    requires { ⌜ (header .rows ≤ 2048) × (header .transactions ≤ 256) × (6 * header .rows ≤ length (now rows)) × (transactionSize (editionOf (header .edition)) * header .transactions ≤ length (now transactions)) ⌝ }
+    requires { ⌜ Listed (header .locations) (now congestion) × Listed (header .locations) (now loss) ⌝ }
+    requires { ⌜ Totals (header .participants) (now «exact_congestion») 0 × Totals (header .participants) (now «exact_loss») 0 × Totals (header .participants) (now shares) 0 ⌝ }
     ensures { λ r. ⌜ r ≡ bothRefusal header (now (rows .entry)) (now (transactions .entry)) ⌝ }
-    ensures { λ r. ⌜ (r ≡ 0 → ChargedIn header (priceList (header .locations) (now («congestion_ahead» .entry)) (now («congestion_real» .entry))) (now (rows .entry)) (now (transactions .entry)) (now («exact_congestion» .exit))) ⌝ }
-    ensures { λ r. ⌜ (r ≡ 0 → ChargedIn header (priceList (header .locations) (now («loss_ahead» .entry)) (now («loss_real» .entry))) (now (rows .entry)) (now (transactions .entry)) (now («exact_loss» .exit))) ⌝ }
+    ensures { λ r. ⌜ (r ≡ 0 → ChargedIn header (listedPrices (header .locations) (now (congestion .entry))) (now (rows .entry)) (now (transactions .entry)) (now («exact_congestion» .exit))) ⌝ }
+    ensures { λ r. ⌜ (r ≡ 0 → ChargedIn header (listedPrices (header .locations) (now (loss .entry))) (now (rows .entry)) (now (transactions .entry)) (now («exact_loss» .exit))) ⌝ }
     ensures { λ r. ⌜ (r ≡ 0 → Shared (rowsIn (now (rows .entry)) (header .rows)) (now (shares .exit))) ⌝ }
 {
-    hour_weights::weigh(congestion_ahead, congestion_real, congestion_weights);
-    hour_weights::weigh(loss_ahead, loss_real, loss_weights);
+    hour_weights::weigh(congestion, header.locations);
+    hour_weights::weigh(loss, header.locations);
     charge_both(
         header,
         rows,
         transactions,
-        congestion_weights,
-        congestion_real,
-        loss_weights,
-        loss_real,
-        exact_congestion,
-        exact_loss,
-        shares,
-    )
-}
-
-// The same from a table of all prices: congestion day-ahead, congestion real time, loss day-ahead, loss real time.
-fn charge_table(
-    header: Header,
-    rows: &[u8],
-    transactions: &[u8],
-    table: &[i64],
-    congestion_weights: &mut [i64],
-    loss_weights: &mut [i64],
-    exact_congestion: &mut [i64],
-    exact_loss: &mut [i64],
-    shares: &mut [i64],
-) -> u32
-    requires { ⌜ (header .participants ≤ 64) × (header .rows ≤ 2048) × (header .transactions ≤ 256) × (6 * header .rows ≤ length (now rows)) × (transactionSize (editionOf (header .edition)) * header .transactions ≤ length (now transactions)) ⌝ }
-    requires { ⌜ (header .locations ≤ 64) × (length (now table) ≡ priceCount header) × InRange (now table) 5000000 ⌝ }
-    requires { ⌜ (length (now «congestion_weights») ≡ header .locations) × (length (now «loss_weights») ≡ header .locations) ⌝ }
-    requires { ⌜ Totals (now «exact_congestion») 0 × Totals (now «exact_loss») 0 × Totals (now shares) 0 ⌝ }
-    ensures { λ r. ⌜ r ≡ bothRefusal header (now (rows .entry)) (now (transactions .entry)) ⌝ }
-    ensures { λ r. ⌜ (r ≡ 0 → ChargedIn header (congestionCut (header .locations) (now (table .entry))) (now (rows .entry)) (now (transactions .entry)) (now («exact_congestion» .exit))) ⌝ }
-    ensures { λ r. ⌜ (r ≡ 0 → ChargedIn header (lossCut (header .locations) (now (table .entry))) (now (rows .entry)) (now (transactions .entry)) (now («exact_loss» .exit))) ⌝ }
-    ensures { λ r. ⌜ (r ≡ 0 → Shared (rowsIn (now (rows .entry)) (header .rows)) (now (shares .exit))) ⌝ }
-{
-    let n = header.locations;
-    let a = 13 * n;
-    let b = 14 * n;
-    let c = 26 * n;
-    charge_listed(
-        header,
-        rows,
-        transactions,
-        &table[0..n],
-        &table[n..a],
-        &table[a..b],
-        &table[b..c],
-        congestion_weights,
-        loss_weights,
+        congestion,
+        loss,
         exact_congestion,
         exact_loss,
         shares,
@@ -256,46 +183,47 @@ fn charge_table(
 
 // ---- the stretches of a file: prices, rows and transactions
 
-// Charges these, prices first, then rows and transactions: the first refusal, or 0. Table and weights are made in the
-// lists that are lent for them.
+// Charges these, prices first, then rows and transactions: the first refusal, or 0. The price lists are read into the lists that are lent for them.
 fn charge_priced(
     header: Header,
     prices: &[u8],
     rows: &[u8],
     transactions: &[u8],
-    table: &mut [i64],
-    congestion_weights: &mut [i64],
-    loss_weights: &mut [i64],
+    congestion: &mut [i32],
+    loss: &mut [i32],
     exact_congestion: &mut [i64],
     exact_loss: &mut [i64],
     shares: &mut [i64],
 ) -> u32
     requires { ⌜ Stretches header (now prices) (now rows) (now transactions) ⌝ }
-    requires { ⌜ (length (now table) ≡ priceCount header) × (length (now «congestion_weights») ≡ header .locations) × (length (now «loss_weights») ≡ header .locations) ⌝ }
-    requires { ⌜ Totals (now «exact_congestion») 0 × Totals (now «exact_loss») 0 × Totals (now shares) 0 ⌝ }
+    requires { ⌜ (length (now congestion) ≡ 13 * header .locations) × (length (now loss) ≡ 13 * header .locations) ⌝ }
+    requires { ⌜ Totals (header .participants) (now «exact_congestion») 0 × Totals (header .participants) (now «exact_loss») 0 × Totals (header .participants) (now shares) 0 ⌝ }
     ensures { λ r. ⌜ r ≡ stretchesRefusal header (now (prices .entry)) (now (rows .entry)) (now (transactions .entry)) ⌝ }
     ensures { λ r. ⌜ (r ≡ 0 → ChargedIn header (congestionIn header (now (prices .entry))) (now (rows .entry)) (now (transactions .entry)) (now («exact_congestion» .exit))) ⌝ }
     ensures { λ r. ⌜ (r ≡ 0 → ChargedIn header (lossIn header (now (prices .entry))) (now (rows .entry)) (now (transactions .entry)) (now («exact_loss» .exit))) ⌝ }
     ensures { λ r. ⌜ (r ≡ 0 → Shared (rowsIn (now (rows .entry)) (header .rows)) (now (shares .exit))) ⌝ }
 {
-    let refusal = exercise_prices::read_table(prices, table);
+    let refusal = exercise_prices::read_list(prices, 0, congestion);
     if refusal != 0 {
         return refusal;
     }
-    charge_table(
+    let refusal = exercise_prices::read_list(prices, 13 * header.locations, loss);
+    if refusal != 0 {
+        return refusal;
+    }
+    charge_listed(
         header,
         rows,
         transactions,
-        table,
-        congestion_weights,
-        loss_weights,
+        congestion,
+        loss,
         exact_congestion,
         exact_loss,
         shares,
     )
 }
 
-// The same, with a table and weights of its own.
+// The same, with price lists of its own. A few locations need not pay for the room of 64.
 fn charge_stretches(
     header: Header,
     prices: &[u8],
@@ -306,25 +234,37 @@ fn charge_stretches(
     shares: &mut [i64],
 ) -> u32
     requires { ⌜ Stretches header (now prices) (now rows) (now transactions) ⌝ }
-    requires { ⌜ Totals (now «exact_congestion») 0 × Totals (now «exact_loss») 0 × Totals (now shares) 0 ⌝ }
+    requires { ⌜ Totals (header .participants) (now «exact_congestion») 0 × Totals (header .participants) (now «exact_loss») 0 × Totals (header .participants) (now shares) 0 ⌝ }
     ensures { λ r. ⌜ r ≡ stretchesRefusal header (now (prices .entry)) (now (rows .entry)) (now (transactions .entry)) ⌝ }
     ensures { λ r. ⌜ (r ≡ 0 → ChargedIn header (congestionIn header (now (prices .entry))) (now (rows .entry)) (now (transactions .entry)) (now («exact_congestion» .exit))) ⌝ }
     ensures { λ r. ⌜ (r ≡ 0 → ChargedIn header (lossIn header (now (prices .entry))) (now (rows .entry)) (now (transactions .entry)) (now («exact_loss» .exit))) ⌝ }
     ensures { λ r. ⌜ (r ≡ 0 → Shared (rowsIn (now (rows .entry)) (header .rows)) (now (shares .exit))) ⌝ }
 {
-    let mut table = [0i64; 1664];
-    let mut congestion_weights = [0i64; 64];
-    let mut loss_weights = [0i64; 64];
-    let n = header.locations;
-    let m = 26 * n;
+    let m = 13 * header.locations;
+    if m <= 104 {
+        let mut congestion = [0i32; 104];
+        let mut loss = [0i32; 104];
+        return charge_priced(
+            header,
+            prices,
+            rows,
+            transactions,
+            &mut congestion[..m],
+            &mut loss[..m],
+            exact_congestion,
+            exact_loss,
+            shares,
+        );
+    }
+    let mut congestion = [0i32; 832];
+    let mut loss = [0i32; 832];
     charge_priced(
         header,
         prices,
         rows,
         transactions,
-        &mut table[..m],
-        &mut congestion_weights[..n],
-        &mut loss_weights[..n],
+        &mut congestion[..m],
+        &mut loss[..m],
         exact_congestion,
         exact_loss,
         shares,
@@ -341,7 +281,7 @@ fn charge_file(
     shares: &mut [i64],
 ) -> u32
     requires { ⌜ frameRefusal (now file) ≡ 0 ⌝ }
-    requires { ⌜ Totals (now «exact_congestion») 0 × Totals (now «exact_loss») 0 × Totals (now shares) 0 ⌝ }
+    requires { ⌜ Totals (hourOf (now file) .participants) (now «exact_congestion») 0 × Totals (hourOf (now file) .participants) (now «exact_loss») 0 × Totals (hourOf (now file) .participants) (now shares) 0 ⌝ }
     ensures { λ r. ⌜ r ≡ contentRefusal (hourOf (now (file .entry))) (spareOf (now (file .entry))) ⌝ }
     ensures { λ r. ⌜ (r ≡ 0 → Charged (hourOf (now (file .entry)) .edition) (congestionPrices (hourOf (now (file .entry)))) (hourOf (now (file .entry)) .rows) (hourOf (now (file .entry)) .transactions) (now («exact_congestion» .exit))) ⌝ }
     ensures { λ r. ⌜ (r ≡ 0 → Charged (hourOf (now (file .entry)) .edition) (lossPrices (hourOf (now (file .entry)))) (hourOf (now (file .entry)) .rows) (hourOf (now (file .entry)) .transactions) (now («exact_loss» .exit))) ⌝ }
@@ -372,11 +312,11 @@ pub fn charge_hour(
     shares: &mut [i64],
 ) -> u32
     requires { ⌜ frameRefusal (now file) ≡ 0 ⌝ }
-    requires { ⌜ Totals (now «exact_congestion») 0 × Totals (now «exact_loss») 0 × Totals (now shares) 0 ⌝ }
+    requires { ⌜ Totals (hourOf (now file) .participants) (now «exact_congestion») 0 × Totals (hourOf (now file) .participants) (now «exact_loss») 0 × Totals (hourOf (now file) .participants) (now shares) 0 ⌝ }
     ensures { λ r. ⌜ r ≡ contentRefusal (hourOf (now (file .entry))) (spareOf (now (file .entry))) ⌝ }
-    ensures { λ r. ⌜ now («exact_congestion» .exit) ≡ lent r (tab (exactCongestion (hourOf (now (file .entry)))) 64) (now («exact_congestion» .entry)) ⌝ }
-    ensures { λ r. ⌜ now («exact_loss» .exit) ≡ lent r (tab (exactLoss (hourOf (now (file .entry)))) 64) (now («exact_loss» .entry)) ⌝ }
-    ensures { λ r. ⌜ now (shares .exit) ≡ lent r (tab (shareOf (hourOf (now (file .entry)))) 64) (now (shares .entry)) ⌝ }
+    ensures { λ r. ⌜ now («exact_congestion» .exit) ≡ lent r (tab (exactCongestion (hourOf (now (file .entry)))) (length (now («exact_congestion» .entry)))) (now («exact_congestion» .entry)) ⌝ }
+    ensures { λ r. ⌜ now («exact_loss» .exit) ≡ lent r (tab (exactLoss (hourOf (now (file .entry)))) (length (now («exact_loss» .entry)))) (now («exact_loss» .entry)) ⌝ }
+    ensures { λ r. ⌜ now (shares .exit) ≡ lent r (tab (shareOf (hourOf (now (file .entry)))) (length (now (shares .entry)))) (now (shares .entry)) ⌝ }
 {
     let refusal = charge_file(file, exact_congestion, exact_loss, shares);
     if refusal != 0 {

@@ -8,15 +8,12 @@ use Rattle.ints.specs.InsideRange.{InRange}
 use Rattle.hour.specs.InsideTotals.{mostCents, Natural}
 
 -- the lists of an hour: each has a number for each of the 1 to 64 participants, charges are in cents, and no share is below 0
-pub record Lists (congestionCharges lossCharges shares congestion loss credit net : List ℤ) : Type 0 where
+pub record Lists (congestion loss shares net : List ℤ) : Type 0 where
   pub some : 1 ≤ length shares
   pub few : length shares ≤ 64
-  pub congestion-charges-each : length congestionCharges ≡ length shares
-  pub loss-charges-each : length lossCharges ≡ length shares
   pub congestion-each : length congestion ≡ length shares
   pub loss-each : length loss ≡ length shares
-  pub credit-each : length credit ≡ length shares
   pub net-each : length net ≡ length shares
-  pub congestion-cents : InRange congestionCharges mostCents
-  pub loss-cents : InRange lossCharges mostCents
+  pub congestion-cents : InRange congestion mostCents
+  pub loss-cents : InRange loss mostCents
   pub natural : Natural shares

@@ -51,34 +51,22 @@ fn write_nets(congestion_charges: &[i64], loss_charges: &[i64], credit: &[i64], 
     }
 }
 
-// An hour's congestion and loss charges, in cents, billed: the surplus split over the shares, and each participant's net.
-// The answer is 10 or 7 where the surplus or the shares are refused, or 0.
-pub fn bill(
-    congestion_charges: &[i64],
-    loss_charges: &[i64],
-    shares: &[i64],
-    congestion: &mut [i64],
-    loss: &mut [i64],
-    credit: &mut [i64],
-    net: &mut [i64],
-) -> u32
-    requires { ⌜ Lists (now «congestion_charges») (now «loss_charges») (now shares) (now congestion) (now loss) (now credit) (now net) ⌝ }
-    ensures { λ r. ⌜ r ≡ surplusRefusal (sum (now («loss_charges» .entry))) (now (shares .entry)) ⌝ }
-    ensures { λ r. ⌜ now (congestion .exit) ≡ lent r (now («congestion_charges» .entry)) (now (congestion .entry)) ⌝ }
-    ensures { λ r. ⌜ now (loss .exit) ≡ lent r (now («loss_charges» .entry)) (now (loss .entry)) ⌝ }
-    ensures { λ r. ⌜ now (credit .exit) ≡ lent r (parts (sum (now («loss_charges» .entry))) (now (shares .entry))) (now (credit .entry)) ⌝ }
-    ensures { λ r. ⌜ now (net .exit) ≡ lent r (netted (now («congestion_charges» .entry)) (now («loss_charges» .entry)) (parts (sum (now («loss_charges» .entry))) (now (shares .entry)))) (now (net .entry)) ⌝ }
+// An hour's congestion and loss charges, in cents, billed: the surplus split over the shares, where the credits come in their place, and each participant's net. The
+// answer is 10 or 7 where the surplus or the shares are refused, or 0.
+pub fn bill(congestion: &[i64], loss: &[i64], credit: &mut [i64], net: &mut [i64]) -> u32
+    requires { ⌜ Lists (now congestion) (now loss) (now credit) (now net) ⌝ }
+    ensures { λ r. ⌜ r ≡ surplusRefusal (sum (now (loss .entry))) (now (credit .entry)) ⌝ }
+    ensures { λ r. ⌜ now (credit .exit) ≡ lent r (parts (sum (now (loss .entry))) (now (credit .entry))) (now (credit .entry)) ⌝ }
+    ensures { λ r. ⌜ now (net .exit) ≡ lent r (netted (now (congestion .entry)) (now (loss .entry)) (parts (sum (now (loss .entry))) (now (credit .entry)))) (now (net .entry)) ⌝ }
 {
-    let surplus = ints::sum(loss_charges);
-    let refusal = split_amount::split(surplus, shares, credit);
+    let surplus = ints::sum(loss);
+    let refusal = split_amount::split_in_place(surplus, credit);
     if refusal == 2 {
         return 10;
     }
     if refusal != 0 {
         return refusal;
     }
-    ints::copy(congestion_charges, congestion);
-    ints::copy(loss_charges, loss);
-    write_nets(congestion_charges, loss_charges, credit, net);
+    write_nets(congestion, loss, credit, net);
     0
 }

@@ -9,6 +9,7 @@ ghost use Rattle.hour.specs.Order.{contentRefusal};
 ghost use Rattle.exercise.specs.Cause.{hourCause};
 ghost use Rattle.exercise.specs.File.{hourOf};
 ghost use Rattle.exercise.specs.Order.{frameRefusal, spareOf};
+ghost use Rattle.hour_find.specs.Inside.{Empty};
 use hour::Cause;
 
 // Of exact loss charges and shares.
@@ -20,7 +21,23 @@ fn rounded_cause(exact_loss: &mut [i64], shares: &[i64]) -> Cause
     hour_cause::surplus_cause(ints::sum(exact_loss), shares)
 }
 
-// Of the surplus and the shares of a file that passes the order to its last transaction.
+// Of the surplus and the shares of a file that passes the order to its last transaction, which are added up in lists of zeros as long as the participants.
+fn charged_cause(
+    file: &[u8],
+    exact_congestion: &mut [i64],
+    exact_loss: &mut [i64],
+    shares: &mut [i64],
+) -> Cause
+    requires { ⌜ frameRefusal (now file) ≡ 0 ⌝ }
+    requires { ⌜ contentRefusal (hourOf (now file)) (spareOf (now file)) ≡ 0 ⌝ }
+    requires { ⌜ Empty (hourOf (now file) .participants) (now «exact_congestion») × Empty (hourOf (now file) .participants) (now «exact_loss») × Empty (hourOf (now file) .participants) (now shares) ⌝ }
+    ensures { λ r. ⌜ r ≡ creditsCause (hourOf (now (file .entry))) ⌝ }
+{
+    hour_charge::charge_hour(file, exact_congestion, exact_loss, shares);
+    rounded_cause(exact_loss, shares)
+}
+
+// The same with lists of its own.
 fn credits_cause(file: &[u8]) -> Cause
     requires { ⌜ frameRefusal (now file) ≡ 0 ⌝ }
     requires { ⌜ contentRefusal (hourOf (now file)) (spareOf (now file)) ≡ 0 ⌝ }
@@ -29,9 +46,13 @@ fn credits_cause(file: &[u8]) -> Cause
     let mut exact_congestion = [0i64; 64];
     let mut exact_loss = [0i64; 64];
     let mut shares = [0i64; 64];
-    hour_charge::charge_hour(file, &mut exact_congestion, &mut exact_loss, &mut shares);
     let n = exercise_file::read_header(file).participants;
-    rounded_cause(&mut exact_loss[..n], &shares[..n])
+    charged_cause(
+        file,
+        &mut exact_congestion[..n],
+        &mut exact_loss[..n],
+        &mut shares[..n],
+    )
 }
 
 // Of the file.

@@ -1,10 +1,8 @@
--- What a row or a transaction adds, and what the functions know of totals. Assumes nothing.
-use mathlib.Core.Path.{_≡_}
+-- What a row or a transaction adds to totals. Assumes nothing.
 use mathlib.Core.List.{List}
-use Prim.Native.Nat.{ℕ, _*_}
+use Prim.Native.Nat.{ℕ}
 use lib.IntN.{ℤ, pos, _+ℤ_, _*ℤ_}
-use lib.ListN.{length, set}
-use Rattle.ints.specs.InsideRange.{InRange}
+use lib.ListN.{set}
 use Rattle.ints.specs.Table.{_at_}
 use Rattle.hour.specs.declared.Edition.{Edition}
 use Rattle.hour.specs.declared.Edition.the-variants as Edition
@@ -14,9 +12,9 @@ use Rattle.hour.specs.Hour.{withdraws}
 use Rattle.hour.specs.InsideParts.{sign, weightIn, buyerPart, sellerPart}
 
 -- what a row adds to its participant's total
-abbrev pub partIn : List ℤ → List ℤ → ℕ → Row → ℤ
-partIn weights real locations r =
-    sign (withdraws (r .kind)) *ℤ pos (r .kw .0) *ℤ weightIn weights real locations (r .market) (r .interval) (r .location)
+abbrev pub partIn : List ℤ → ℕ → Row → ℤ
+partIn table locations r =
+    sign (withdraws (r .kind)) *ℤ pos (r .kw .0) *ℤ weightIn table locations (r .market) (r .interval) (r .location)
 
 -- totals with an amount added to p's
 abbrev pub plus : List ℤ → ℕ → ℤ → List ℤ
@@ -27,9 +25,3 @@ unfoldable pub transactionAdded : Edition → (ℕ → ℕ → ℕ → ℤ) → 
 transactionAdded Edition.PathOnly counts t totals = plus totals (t .participant) (buyerPart Edition.PathOnly counts t)
 transactionAdded Edition.WithSeller counts t totals =
     plus (plus totals (t .participant) (buyerPart Edition.WithSeller counts t)) (t .seller) (sellerPart Edition.WithSeller counts t)
-
--- ---- a total for each of 64 participants
-
-pub record Totals (totals : List ℤ) (k : ℕ) : Type 0 where
-  pub long : length totals ≡ 64
-  pub range : InRange totals k

@@ -5,15 +5,15 @@ ghost use lib.IntN.{pos, _+ℤ_, _-ℤ_, _*ℤ_};
 ghost use lib.ListN.{length, set};
 ghost use mir.Syntax.{w64};
 ghost use mir.Val.{SFits};
-ghost use Rattle.ints.specs.InsideRange.{Within};
+ghost use Rattle.ints.specs.InsideRange.{Within, InRange};
 ghost use Rattle.ints.specs.Table.{_at_};
 ghost use Rattle.hour.specs.Hour.{withdraws};
 ghost use Rattle.hour.specs.InsideParts.{sign, weightIn};
 ghost use Rattle.hour.specs.InsideTested.{RowTested, TransactionTested};
 ghost use Rattle.hour.specs.Surplus.{isShare, shareKw};
-ghost use Rattle.hour_weights.specs.Inside.{Tables};
+ghost use Rattle.hour_weights.specs.Inside.{Table};
 ghost use Rattle.hour.specs.declared.Edition.the-variants as Edition;
-ghost use Rattle.hour_totals.specs.Inside.{Totals, partIn, transactionAdded};
+ghost use Rattle.hour_totals.specs.Inside.{partIn, transactionAdded};
 ghost use Rattle.hour.specs.InsideTotals.{sharesMost, rowsMost, hourMost};
 use hour::EXPORT;
 use hour::Edition;
@@ -23,20 +23,20 @@ use hour::Row;
 use hour::Transaction;
 use units::Kw;
 use units::Mills;
+use units::NetKw;
 use units::Twelfths;
 
 // ---- what a row, and a transaction, adds
 
-// kW at a weight: withdrawals (even kinds) are charged, injections (odd kinds) reimbursed.
-fn row_part(kind: u8, kw: Kw, weight: Mills) -> Twelfths
-    requires { ⌜ (kind < 6) × (kw .0 ≤ 20000000) × Within (weight .0) 120000000 ⌝ }
-    ensures { λ r. ⌜ r .0 ≡ sign (withdraws kind) *ℤ pos (kw .0) *ℤ weight .0 ⌝ }
+// A row's kW: withdrawals (even kinds) are charged, injections (odd kinds) reimbursed. The sign is put on once, for both price lists.
+fn net_kw(kind: u8, kw: Kw) -> NetKw
+    requires { ⌜ kind < 6 ⌝ }
+    ensures { λ r. ⌜ r .0 ≡ sign (withdraws kind) *ℤ pos (kw .0) ⌝ }
 {
-    let t = units::charge_of(kw, weight);
     if kind % 2 == 0 {
-        t
+        units::withdrawn(kw)
     } else {
-        units::reimbursed(t)
+        units::injected(kw)
     }
 }
 
@@ -45,7 +45,7 @@ fn path_part(kw: Kw, sink: Mills, source: Mills) -> Twelfths
     requires { ⌜ (kw .0 ≤ 20000000) × Within (sink .0) 120000000 × Within (source .0) 120000000 ⌝ }
     ensures { λ r. ⌜ r .0 ≡ pos (kw .0) *ℤ (sink .0 -ℤ source .0) ⌝ }
 {
-    units::charge_of(kw, units::rise(sink, source))
+    units::charge_of(units::withdrawn(kw), units::rise(sink, source))
 }
 
 // ---- totals
@@ -59,45 +59,30 @@ fn add_amount(totals: &mut [i64], p: usize, amount: Twelfths)
 }
 
 // A row's part, added to its participant's total.
-pub fn add_row(row: Row, locations: usize, weights: &[i64], real: &[i64], totals: &mut [i64])
-    requires { ⌜ RowTested 64 locations row × Tables locations (now weights) (now real) × Totals (now totals) rowsMost ⌝ }
-    ensures { λ _. ⌜ now (totals .exit) ≡ set (now (totals .entry)) (row .participant) (now (totals .entry) at row .participant +ℤ partIn (now (weights .entry)) (now (real .entry)) locations row) ⌝ }
+pub fn add_row(row: Row, locations: usize, table: &[i32], totals: &mut [i64])
+    requires { ⌜ RowTested (length (now totals)) locations row × Table locations (now table) × InRange (now totals) rowsMost ⌝ }
+    ensures { λ _. ⌜ now (totals .exit) ≡ set (now (totals .entry)) (row .participant) (now (totals .entry) at row .participant +ℤ partIn (now (table .entry)) locations row) ⌝ }
 {
-    let weight = hour_weights::weight_of(
-        locations,
-        weights,
-        real,
-        row.market,
-        row.interval,
-        row.location,
-    );
-    let amount = row_part(row.kind, row.kw, weight);
+    let weight = hour_weights::weight_of(locations, table, row.market, row.interval, row.location);
+    let amount = units::charge_of(net_kw(row.kind, row.kw), weight);
     add_amount(totals, row.participant as usize, amount);
 }
 
 // What the path of a transaction costs, added to its participant's total.
-fn add_path(
-    transaction: Transaction,
-    locations: usize,
-    weights: &[i64],
-    real: &[i64],
-    totals: &mut [i64],
-)
-    requires { ⌜ TransactionTested 64 locations transaction × Tables locations (now weights) (now real) × Totals (now totals) hourMost ⌝ }
-    ensures { λ _. ⌜ now (totals .exit) ≡ transactionAdded Edition.PathOnly (weightIn (now (weights .entry)) (now (real .entry)) locations) transaction (now (totals .entry)) ⌝ }
+fn add_path(transaction: Transaction, locations: usize, table: &[i32], totals: &mut [i64])
+    requires { ⌜ TransactionTested (length (now totals)) locations transaction × Table locations (now table) × InRange (now totals) hourMost ⌝ }
+    ensures { λ _. ⌜ now (totals .exit) ≡ transactionAdded Edition.PathOnly (weightIn (now (table .entry)) locations) transaction (now (totals .entry)) ⌝ }
 {
     let sink = hour_weights::weight_of(
         locations,
-        weights,
-        real,
+        table,
         transaction.market,
         transaction.interval,
         transaction.sink,
     );
     let source = hour_weights::weight_of(
         locations,
-        weights,
-        real,
+        table,
         transaction.market,
         transaction.interval,
         transaction.source,
@@ -108,25 +93,18 @@ fn add_path(
 
 // The same with a seller, path and legs together. At the sink the participant pays for the path what it is paid for the purchase, so that the source alone is weighed: the
 // participant is reimbursed there what the seller is charged.
-fn add_sale(
-    transaction: Transaction,
-    locations: usize,
-    weights: &[i64],
-    real: &[i64],
-    totals: &mut [i64],
-)
-    requires { ⌜ TransactionTested 64 locations transaction × Tables locations (now weights) (now real) × Totals (now totals) hourMost ⌝ }
-    ensures { λ _. ⌜ now (totals .exit) ≡ transactionAdded Edition.WithSeller (weightIn (now (weights .entry)) (now (real .entry)) locations) transaction (now (totals .entry)) ⌝ }
+fn add_sale(transaction: Transaction, locations: usize, table: &[i32], totals: &mut [i64])
+    requires { ⌜ TransactionTested (length (now totals)) locations transaction × Table locations (now table) × InRange (now totals) hourMost ⌝ }
+    ensures { λ _. ⌜ now (totals .exit) ≡ transactionAdded Edition.WithSeller (weightIn (now (table .entry)) locations) transaction (now (totals .entry)) ⌝ }
 {
     let weight = hour_weights::weight_of(
         locations,
-        weights,
-        real,
+        table,
         transaction.market,
         transaction.interval,
         transaction.source,
     );
-    let amount = units::charge_of(transaction.kw, weight);
+    let amount = units::charge_of(units::withdrawn(transaction.kw), weight);
     add_amount(
         totals,
         transaction.participant as usize,
@@ -140,16 +118,15 @@ pub fn add_transaction(
     edition: Edition,
     transaction: Transaction,
     locations: usize,
-    weights: &[i64],
-    real: &[i64],
+    table: &[i32],
     totals: &mut [i64],
 )
-    requires { ⌜ TransactionTested 64 locations transaction × Tables locations (now weights) (now real) × Totals (now totals) hourMost ⌝ }
-    ensures { λ _. ⌜ now (totals .exit) ≡ transactionAdded edition (weightIn (now (weights .entry)) (now (real .entry)) locations) transaction (now (totals .entry)) ⌝ }
+    requires { ⌜ TransactionTested (length (now totals)) locations transaction × Table locations (now table) × InRange (now totals) hourMost ⌝ }
+    ensures { λ _. ⌜ now (totals .exit) ≡ transactionAdded edition (weightIn (now (table .entry)) locations) transaction (now (totals .entry)) ⌝ }
 {
     match edition {
-        Edition::PathOnly => add_path(transaction, locations, weights, real, totals),
-        Edition::WithSeller => add_sale(transaction, locations, weights, real, totals),
+        Edition::PathOnly => add_path(transaction, locations, table, totals),
+        Edition::WithSeller => add_sale(transaction, locations, table, totals),
     }
 }
 
@@ -186,7 +163,7 @@ fn add_kw(shares: &mut [i64], p: usize, kw: Kw)
 
 // A row's kW, added to its participant's share where they count.
 pub fn add_share(row: Row, shares: &mut [i64])
-    requires { ⌜ (row .participant < 64) × (row .kw .0 ≤ 20000000) × Totals (now shares) sharesMost ⌝ }
+    requires { ⌜ (row .participant < length (now shares)) × (row .kw .0 ≤ 20000000) × InRange (now shares) sharesMost ⌝ }
     ensures { λ _. ⌜ now (shares .exit) ≡ set (now (shares .entry)) (row .participant) (now (shares .entry) at row .participant +ℤ shareKw row) ⌝ }
 {
     add_kw(shares, row.participant as usize, share_kw(row));

@@ -3,16 +3,16 @@
 use mathlib.Core.Path.{_≡_}
 use contract.Lifetimes.{Lfts}
 use Rattle.ints.proofs.Unique.{unique}
-use Rattle.hour_weights.proofs.interval_prices.Reads as interval-prices
+use Rattle.hour_weights.proofs.stage_prices.Reads as stage-prices
 use Rattle.hour_weights.proofs.weigh.Reads as weigh
 use Rattle.hour_weights.proofs.weight_of.Reads as weight-of
 
 -- a part by its numbers and by where it lies: the block, and the place in it
-pub interval-prices-unique : (κs : Lfts 1) (a : _) (r s : _) (e f : _) → interval-prices.Post κs a r e → interval-prices.Post κs a s f → (r .now ≡ s .now) × (r .ptr .0 ≡ s .ptr .0) × (r .ptr .1 ≡ s .ptr .1)
-interval-prices-unique κs a r s e f p q = (unique (p .0) (q .0), unique (p .1 .0) (q .1 .0), unique (p .1 .1) (q .1 .1))
+pub stage-prices-unique : (κs : Lfts 1) (a : _) (r s : _) (e f : _) → stage-prices.Post κs a r e → stage-prices.Post κs a s f → (r .now ≡ s .now) × (r .ptr .0 ≡ s .ptr .0) × (r .ptr .1 ≡ s .ptr .1)
+stage-prices-unique κs a r s e f p q = (unique (p .0) (q .0), unique (p .1 .0) (q .1 .0), unique (p .1 .1) (q .1 .1))
 
-pub weigh-unique : (κs : Lfts 3) (a : _) (r s : _) (e f : _) → weigh.Post κs a r e → weigh.Post κs a s f → e .1 .1 .0 .now ≡ f .1 .1 .0 .now
+pub weigh-unique : (κs : Lfts 1) (a : _) (r s : _) (e f : _) → weigh.Post κs a r e → weigh.Post κs a s f → e .0 .now ≡ f .0 .now
 weigh-unique κs a r s e f p q = unique p q
 
-pub weight-of-unique : (κs : Lfts 2) (a : _) (r s : _) (e f : _) → weight-of.Post κs a r e → weight-of.Post κs a s f → r .0 ≡ s .0
+pub weight-of-unique : (κs : Lfts 1) (a : _) (r s : _) (e f : _) → weight-of.Post κs a r e → weight-of.Post κs a s f → r .0 ≡ s .0
 weight-of-unique κs a r s e f p q = unique p q

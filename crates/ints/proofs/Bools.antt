@@ -41,3 +41,11 @@ and-grouped false b c = refl
 pub and-last : (a : Bool) → (a && true) ≡ a
 and-last true = refl
 and-last false = refl
+
+pub and-nothing : (a : Bool) → (a && true) ≡ a
+and-nothing true = refl
+and-nothing false = refl
+
+pub and-assoc : (a b c : Bool) → (a && (b && c)) ≡ ((a && b) && c)
+and-assoc true b c = refl
+and-assoc false b c = refl

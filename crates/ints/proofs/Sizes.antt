@@ -6,7 +6,7 @@ use native.Mathlib.Omega.{arith}
 use lib.Dec.{T, ltb, leb, ltb→lt, leb→le, le→leb}
 use lib.IntN.{ℤ, pos, negsuc, negℤ, natAbs, subℕ, _+ℤ_, _-ℤ_, _*ℤ_}
 use lib.Signed.{mag, _≤ℤ_}
-use mir.Syntax.{Width, w64}
+use mir.Syntax.{Width, w32, w64}
 use mir.Val.{SFits, hbits, toZ, ofZ}
 use mir.Facts.{toZ-ofZ}
 use Rattle.ints.specs.InsideRange.{Within}
@@ -113,3 +113,10 @@ w-fits′ {x} p l = fits64 x (omega (arith, p .within))
 -- what is read back from the bits of a number that is within a bound: `w-read p tt`
 pub w-read : {x : ℤ} {k : ℕ} → Within x k → T (ltb k (2 ^ 63)) → toZ w64 (ofZ w64 x) ≡ x
 w-read p t = toZ-ofZ (w-fits p t)
+
+-- the same of 32 bits
+pub w-fits32 : {x : ℤ} {k : ℕ} → Within x k → T (ltb k (2 ^ 31)) → SFits w32 x
+w-fits32 {x} {k} p t = sfits-abs {w = w32} x (omega (arith, p .within, ltb→lt k (2 ^ 31) t))
+
+pub w-read32 : {x : ℤ} {k : ℕ} → Within x k → T (ltb k (2 ^ 31)) → toZ w32 (ofZ w32 x) ≡ x
+w-read32 p t = toZ-ofZ (w-fits32 p t)

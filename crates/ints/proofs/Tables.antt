@@ -7,10 +7,10 @@ use Prim.Native.Nat.{ℕ, zero, suc, _+_, _≤_, _<_}
 use native.Mathlib.Nat.{eq-or-lt-of-le, le-of-suc-le-suc, not-suc-le-zero}
 use native.Mathlib.Numerals.{add-one}
 use native.Mathlib.Omega.{arith}
-use lib.ListN.{length, getD, take, drop, set, length-append, length-set, List·getD-append, drop-of-length-le}
-use lib.Seq.{take-suc-set, take-all, getD-at, getD-take, getD-set-other, drop-cons, ext-getD}
+use lib.ListN.{length, getD, take, drop, set, length-append, length-drop, length-set, List·getD-append, drop-of-length-le, take-append-drop}
+use lib.Seq.{take-suc-set, take-all, getD-at, getD-take, getD-drop, getD-set-other, drop-cons, ext-getD}
 use Rattle.ints.specs.Table.{tab, all}
-use Rattle.ints.proofs.Bools.{and-true}
+use Rattle.ints.proofs.Bools.{and-true, and-nothing, and-assoc}
 
 -- ---- tabulated lists
 
@@ -79,6 +79,10 @@ module _ {A : Type 0} (d : A) (f : ℕ → A) (before : List A) where
   pub place-done : (l : List A) (i : ℕ) → InPlace i l → length before ≤ i → i ≤ length before → l ≡ tab f (length before)
   place-done l i p h k = tab-done f l i (omega (arith, p .long)) (p .made) ∙ ap (tab f) (p .long)
 
+  -- .. of a list whose first i are changed
+  pub place-front : (l : List A) (i : ℕ) → InPlace i l → l ≡ tab f i ++ drop i before
+  place-front l i p = sym (take-append-drop i l) ∙ ap₂ _++_ (p .made) (ext-getD d (drop i l) (drop i before) (omega (arith, length-drop i l, length-drop i before, p .long)) (λ j _. getD-drop i l j d ∙ p .rest (i + j) (omega arith) ∙ sym (getD-drop i before j d)))
+
 -- ---- a test over a list, element by element
 
 module _ {A : Type 0} (t : A → Bool) (d : A) where
@@ -98,6 +102,15 @@ module _ {A : Type 0} (t : A → Bool) (d : A) where
   all-at (x ∷ xs) e (suc i) h = all-at xs (and-true (t x) (all t xs) e .1) i (le-of-suc-le-suc h)
 
 -- ---- a list by a rule, in two parts
+
+-- a test over one more
+pub all-last : {A : Type 0} (t : A → Bool) (f : ℕ → A) (n : ℕ) → (all t (tab f n) && t (f n)) ≡ all t (tab f (n + 1))
+unfolding tab all
+all-last {A} t f n = sym (ap (λ (k : ℕ). all t (tab f k)) (add-one n) ∙ more (tab f n))
+  where
+    more : (xs : List A) → all t (xs ++ (f n ∷ [])) ≡ (all t xs && t (f n))
+    more [] = and-nothing (t (f n))
+    more (x ∷ xs) = ap (λ (b : Bool). t x && b) (more xs) ∙ and-assoc (t x) (all t xs) (t (f n))
 
 pub tab-parts : {A : Type 0} (f : ℕ → A) (m n : ℕ) → tab f (m + n) ≡ tab f m ++ tab (λ i. f (m + i)) n
 unfolding tab

@@ -5,7 +5,7 @@ use mathlib.Core.Bool.{Bool, true, false}
 use mathlib.Core.List.{List, [], _∷_, _++_}
 use Prim.Native.Nat.{ℕ, zero, suc, _+_, _≤_, _<_}
 use native.Mathlib.Nat.{eq-or-lt-of-le, le-of-suc-le-suc, not-suc-le-zero}
-use native.Mathlib.Numerals.{add-one}
+use native.Mathlib.Numerals.{add-one, unary-clauses}
 use native.Mathlib.Omega.{arith}
 use lib.Dec.{eqb}
 use lib.ListN.{length}
@@ -98,6 +98,12 @@ then-assoc a b c = by (eqb a 0) refl
     by : (t : Bool) → eqb a 0 ≡ t → pick t (b then c) a ≡ (pick t b a then c)
     by true e = refl
     by false e = sym (then-earlier a c (eqb-false a 0 e))
+
+-- two runs, one behind the other
+pub turn-parts : (f : ℕ → ℕ) (m n : ℕ) → inTurn f (m + n) ≡ (inTurn f m then inTurn (λ i. f (m + i)) n)
+unfolding inTurn
+turn-parts f m zero = simp unary-clauses (sym (then-nothing (inTurn f m)))
+turn-parts f m (suc n) = simp unary-clauses (ap (λ (r : ℕ). r then f (m + n)) (turn-parts f m n) ∙ sym (then-assoc (inTurn f m) (inTurn (λ i. f (m + i)) n) (f (m + n))))
 
 module _ {A : Type 0} (f : ℕ → A → ℕ) where
   order-last : (i : ℕ) (xs : List A) (x : A) → inOrder f i (xs ++ (x ∷ [])) ≡ (inOrder f i xs then f (i + length xs) x)

@@ -6,6 +6,7 @@ use Prim.Native.Nat.{ℕ}
 use lib.IntN.{ℤ}
 use contract.Lifetimes.{Lfts}
 use Rattle.ints.proofs.all_between.Reads as all-between
+use Rattle.ints.proofs.both.Reads as both
 use Rattle.ints.proofs.clear.Reads as clear
 use Rattle.ints.proofs.copy.Reads as copy
 use Rattle.ints.proofs.is_between.Reads as is-between
@@ -33,6 +34,9 @@ wide-unique a r s e f p q = unique (p .0) (q .0)
 
 pub is-between-unique : (a : _) (r s : Bool) (e f : _) → is-between.Post tt a r e → is-between.Post tt a s f → r ≡ s
 is-between-unique a r s e f p q = unique p q
+
+pub both-unique : (a : _) (r s : Bool) (e f : _) → both.Post tt a r e → both.Post tt a s f → r ≡ s
+both-unique a r s e f p q = unique p q
 
 pub all-between-unique : (κs : Lfts 1) (a : _) (r s : Bool) (e f : _) → all-between.Post κs a r e → all-between.Post κs a s f → r ≡ s
 all-between-unique κs a r s e f p q = unique p q

@@ -49,8 +49,8 @@ pub fn is_between(x: i64, low: i64, high: i64) -> bool
     low <= x && x <= high
 }
 
-// Whether both hold.
-fn both(a: bool, b: bool) -> bool
+// Whether both hold. Both are known by then, so that tests that are joined by it are made without a branch.
+pub fn both(a: bool, b: bool) -> bool
     ensures { λ r. ⌜ r ≡ (a && b) ⌝ }
 {
     a && b

@@ -141,7 +141,7 @@ pub record Naturals (list : List ℤ) (k : ℕ) : Type 0 where
   pub natural : (i : ℕ) → list at i ≡ pos (natAbs (list at i))
   pub most : (i : ℕ) → natAbs (list at i) ≤ k
 
-past : (list : List ℤ) (i k : ℕ) → (i < length list → ⊥) → (list at i ≡ pos (natAbs (list at i))) × (natAbs (list at i) ≤ k)
+pub past : (list : List ℤ) (i k : ℕ) → (i < length list → ⊥) → (list at i ≡ pos (natAbs (list at i))) × (natAbs (list at i) ≤ k)
 past list i k h =
     let none : list at i ≡ pos 0 = List·getD-eq-default list (pos 0) (omega arith) in
     (none ∙ ap (λ (z : ℤ). pos (natAbs z)) (sym none), omega (arith, ap natAbs none))
@@ -209,6 +209,7 @@ module _ {metered : ℤ} {loads imports generation : List ℤ} {areas : ℤ} {ar
           let a = identity (area contracts j) in
           splits-of (kw contracts j) (partsOf (length loads) areaParts a) (ranged-of (kw contracts j) (allTo-at (λ j. between (pos 0) (pos 20000000) (kw contracts j)) (contractCount contracts) (r .kw-in) j h))
           (stretch-shares a (i .placed j h)) (omega (arith, length-stretch (length loads) areaParts a (stretch-long a (i .placed j h)), c .some)) (omega (arith, w a (i .placed j h)));
+      whole = λ j h. w (identity (area contracts j)) (i .placed j h);
     }
 
 -- ---- all of 1 to 5

@@ -11,10 +11,10 @@ use lib.ListN.{length}
 use lib.Signed.{leZ}
 use Rattle.ints.specs.Number.{between}
 use Rattle.ints.specs.Refusal.{pick, unless}
-use Rattle.ints.specs.Table.{_at_, tab}
+use Rattle.ints.specs.Table.{_at_}
 use Rattle.ints.proofs.Bools.{either}
 use Rattle.ints.proofs.Eachs.{allTo-ext}
-use Rattle.ints.proofs.Tables.{length-tab, tab-ext}
+use Rattle.ints.proofs.Tables.{length-tab, tab-ext, tab-copy}
 use Rattle.ints.proofs.Turns.{then-none}
 use Rattle.split.specs.Split.{parts}
 use Rattle.split.proofs.Laws.{length-parts}
@@ -64,10 +64,11 @@ cover-ext n areaParts contracts f g h = ap (λ (t : Bool). unless t 8 0) (allTo-
 
 -- ---- a table with the numbers of the result
 
-pub assignment-is : (d : LoadGiven) (table : List ℤ) → 1 ≤ buses d → ((p b : ℕ) → p < 64 → b < buses d → cell (buses d) table p b ≡ assigned d p b) → tab (λ k. table at k) (64 * buses d) ≡ assignment d
+pub assignment-is : (d : LoadGiven) (table : List ℤ) → 1 ≤ buses d → length table ≡ 64 * buses d → ((p b : ℕ) → p < 64 → b < buses d → cell (buses d) table p b ≡ assigned d p b) → table ≡ assignment d
 unfolding assignment
-assignment-is d table some h =
-    tab-ext _ _ (64 * buses d)
+assignment-is d table some long h =
+    sym (tab-copy (pos 0) table (sym long))
+    ∙ tab-ext _ _ (64 * buses d)
     (λ k l. ap (λ (i : ℕ). table at i) (sym (div-add-mod' k (buses d))) ∙ h (k / buses d) (k % buses d) (div-lt-iff-lt-mul some .1 l) (mod-lt k some))
 
 -- an accepted assignment is as long as the list lent for it

@@ -2,11 +2,12 @@
 use mathlib.Core.Path.{_≡_, refl, sym, ap, ap₂, _∙_, subst}
 use mathlib.Core.Logic.{⊎-elim}
 use mathlib.Core.Bool.{Bool, true, false}
-use mathlib.Core.List.{List}
+use mathlib.Core.List.{List, [], _∷_}
 use Prim.Native.Nat.{ℕ, _+_, _*_, _-_, _≤_, _<_}
 use native.Mathlib.Omega.{arith}
 use lib.Dec.{ltb, eqb}
 use lib.IntN.{ℤ, pos, natAbs, _+ℤ_, _-ℤ_, +ℤ-idl, +ℤ-idr}
+use lib.ListN.{length, getD, length-replicate}
 use lib.Signed.{leZ}
 use borrow.Author.Tests.{lt-ltb, le-ltb, eq-eqb, ne-eqb, eqb-true, eqb-false, ltb-true, ltb-false, leb-true}
 use Rattle.ints.specs.InsideRange.{Within}
@@ -15,16 +16,18 @@ use Rattle.ints.specs.Sum.{sumTo, sumN, only}
 use Rattle.ints.specs.Table.{_at_}
 use Rattle.ints.proofs.Adding.{only-within}
 use Rattle.ints.proofs.Bools.{either}
+use Rattle.ints.proofs.Counts.{sumN-zero}
 use Rattle.ints.proofs.Diff.{_⊖_, ⊖-eq, ⊖-laws, pos-⊖}
 use Rattle.ints.proofs.Signs.{signed-sum}
 use Rattle.ints.proofs.Sizes.{w-up}
 use Rattle.ints.proofs.Sums.{sumTo-zero, sumTo-next, sumTo-ext, sumTo-abs}
-use Rattle.split.specs.Split.{total, part, parts}
-use Rattle.load.specs.Inside.{Splittable, RoomInTables, Contracts, Empty, Auction, Ranged, Remainings}
+use Rattle.split.specs.Inside.{Shares}
+use Rattle.split.specs.Split.{share, total, part, parts}
+use Rattle.load.specs.Inside.{Splittable, RoomInTables, Contracts, Empty, Won, wonPart, Ranged, Remainings}
 use Rattle.load.specs.Load.{identity, supplier, area, kw, contractCount, partsOf, contractAt, contracted, auctioned}
 use Rattle.load.specs.InsideTable.{Cells, AddedCells}
 use Rattle.load.proofs.Splits.{length-stretch, part-within, part-natural, splits-of}
-use Rattle.load.proofs.Tables.{added-none, added-then, added-same, added-cells}
+use Rattle.load.proofs.Tables.{added-none, added-then, added-same, added-cells, zero-cells}
 
 only-zero : (t : Bool) → only t (pos 0) ≡ pos 0
 only-zero true = refl
@@ -74,10 +77,10 @@ module _ (n : ℕ) (areaParts contracts : List ℤ) where
       -- there is room for one more
       pub tables-of : {table₀ contracted₀ table contracted : List ℤ} → Empty n table₀ contracted₀ → AddedCells n (firstLoad j) table₀ table → AddedCells n (firstAll j) contracted₀ contracted → RoomInTables n table contracted
       tables-of e x y = record {
-        table-long = x .same ∙ e .table-long;
-        contracted-long = y .same ∙ e .contracted-long;
-        table-small = added-cells 1000000000000 x (e .table-empty) load-within (omega arith);
-        contracted-small = added-cells 1000000000000 y (e .contracted-empty) all-within (omega arith);
+        table-long = x .same ∙ ap length (e .table-empty) ∙ length-replicate (64 * n) (pos 0);
+        contracted-long = y .same ∙ ap length (e .contracted-empty);
+        table-small = added-cells 1000000000000 x (zero-cells (64 * n) (e .table-empty) n) load-within (omega arith);
+        contracted-small = added-cells 1000000000000 y (zero-cells 64 (e .contracted-empty) n) all-within (omega arith);
       }
 
 -- ---- step 3
@@ -91,21 +94,48 @@ module _ (distributor : ℕ) (tranches : List ℤ) (remaining : ℤ) (p : ℕ) w
   unfolding auctioned
   is-shared ne = ap (λ (t : Bool). pick t (only (eqb distributor p) remaining) (parts remaining tranches at p)) (ne-eqb (total tranches) 0 ne)
 
--- tranches that were won can be split over
-pub splits-over : {n distributor : ℕ} {tranches : List ℤ} {remaining : ℤ} → Auction n distributor tranches → Ranged remaining → (total tranches ≡ 0 → ⊥) → Splittable remaining tranches
-splits-over {tranches = tranches} {remaining = remaining} a r ne = splits-of remaining tranches r (a .tested) (omega (arith, a .all)) (omega arith)
+some-share : (shares : List ℤ) → (total shares ≡ 0 → ⊥) → 1 ≤ length shares
+unfolding total
+some-share [] ne = absurd (ne (sumN-zero (share [])))
+some-share (x ∷ xs) ne = omega arith
 
-module _ (n distributor : ℕ) (tranches loads contracted : List ℤ) where
+-- tranches that were won can be split over
+pub splits-over : {shares : List ℤ} {remaining : ℤ} → Shares shares → Ranged remaining → (total shares ≡ 0 → ⊥) → Splittable remaining shares
+splits-over {shares} {remaining} s r ne = splits-of remaining shares r s (some-share shares ne) (omega arith)
+
+-- the same by the tranches that aren't 0 and their winners
+module _ (distributor : ℕ) (won : List ℤ) (winners : List ℕ) (remaining : ℤ) (p : ℕ) where
+  abbrev toWinners : ℤ
+  toWinners = sumTo (λ j. only (eqb (getD winners j 0) p) (parts remaining won at j)) (length won)
+
+  pub won-stays : total won ≡ 0 → wonPart distributor won winners remaining p ≡ only (eqb distributor p) remaining
+  unfolding wonPart
+  won-stays e = ap (λ (t : Bool). pick t (only (eqb distributor p) remaining) toWinners) (eq-eqb (total won) 0 e)
+
+  pub won-shared : (total won ≡ 0 → ⊥) → wonPart distributor won winners remaining p ≡ toWinners
+  unfolding wonPart
+  won-shared ne = ap (λ (t : Bool). pick t (only (eqb distributor p) remaining) toWinners) (ne-eqb (total won) 0 ne)
+
+  pub won-within : Won distributor won winners → Ranged remaining → Within (wonPart distributor won winners remaining p) 2000000000
+  won-within w r =
+      ⊎-elim
+      (λ t. subst (λ (z : ℤ). Within z 2000000000) (sym (won-stays (eqb-true (total won) 0 t))) (only-within (eqb distributor p) (w-up {h = 20000000} (record { within = r .small }) (omega arith))))
+      (λ t. subst (λ (z : ℤ). Within z 2000000000) (sym (won-shared (eqb-false (total won) 0 t)))
+      (w-up {h = length won * 20000000} (record { within = sumTo-abs _ 20000000 (length won) (λ j l. only-within (eqb (getD winners j 0) p) (part-within (splits-over (w .tested) r (eqb-false (total won) 0 t)) j l) .within) }) (omega (arith, w .tested .few))))
+      (either (eqb (total won) 0))
+
+-- `give` says what participant p gets of what remains at a bus
+module _ (give : ℤ → ℕ → ℤ) (n : ℕ) (loads contracted : List ℤ) where
   -- what remained at the first j buses
   abbrev pub firstRest : ℕ → ℕ → ℕ → ℤ
-  firstRest j p b = only (ltb b j) (auctioned distributor tranches (loads at b -ℤ contracted at b) p)
+  firstRest j p b = only (ltb b j) (give (loads at b -ℤ contracted at b) p)
 
   pub rests-none : {table : List ℤ} → AddedCells n (firstRest 0) table table
-  rests-none = added-none _ (λ p b. ap (λ (t : Bool). only t (auctioned distributor tranches (loads at b -ℤ contracted at b) p)) (le-ltb b 0 (omega arith)))
+  rests-none = added-none _ (λ p b. ap (λ (t : Bool). only t (give (loads at b -ℤ contracted at b) p)) (le-ltb b 0 (omega arith)))
 
   pub rests-next : {before table after : List ℤ} (j : ℕ) → AddedCells n (firstRest j) before table
-      → AddedCells n (λ p b. only (eqb j b) (auctioned distributor tranches (loads at j -ℤ contracted at j) p)) table after → AddedCells n (firstRest (j + 1)) before after
-  rests-next j x y = added-then _ x y (λ p b _ _. one-more (λ k. auctioned distributor tranches (loads at k -ℤ contracted at k) p) b)
+      → AddedCells n (λ p b. only (eqb j b) (give (loads at j -ℤ contracted at j) p)) table after → AddedCells n (firstRest (j + 1)) before after
+  rests-next j x y = added-then _ x y (λ p b _ _. one-more (λ k. give (loads at k -ℤ contracted at k) p) b)
     where
       one-more : (f : ℕ → ℤ) (b : ℕ) → only (ltb b j) (f b) +ℤ only (eqb j b) (f j) ≡ only (ltb b (j + 1)) (f b)
       one-more f b = ⊎-elim same-bus other-bus (either (eqb j b))
@@ -121,19 +151,12 @@ module _ (n distributor : ℕ) (tranches loads contracted : List ℤ) where
               ap (λ (t : Bool). only (ltb b j) (f b) +ℤ only t (f j)) t ∙ +ℤ-idr (only (ltb b j) (f b))
               ∙ ap (λ (t : Bool). only t (f b)) (⊎-elim (λ s. s ∙ sym (lt-ltb b (j + 1) (omega (arith, ltb-true b j s)))) (λ s. s ∙ sym (le-ltb b (j + 1) (omega (arith, ltb-false b j s, eqb-false j b t)))) (either (ltb b j)))
 
-  pub rests-done : {before after : List ℤ} → AddedCells n (firstRest n) before after → AddedCells n (λ p b. auctioned distributor tranches (loads at b -ℤ contracted at b) p) before after
-  rests-done x = added-same _ x (λ p b _ l. ap (λ (t : Bool). only t (auctioned distributor tranches (loads at b -ℤ contracted at b) p)) (lt-ltb b n l))
+  pub rests-done : {before after : List ℤ} → AddedCells n (firstRest n) before after → AddedCells n (λ p b. give (loads at b -ℤ contracted at b) p) before after
+  rests-done x = added-same _ x (λ p b _ l. ap (λ (t : Bool). only t (give (loads at b -ℤ contracted at b) p)) (lt-ltb b n l))
 
-  module _ (auction : Auction n distributor tranches) (given : Remainings n loads contracted) where
-    rest-within : (p b : ℕ) → p < 64 → b < n → Within (auctioned distributor tranches (loads at b -ℤ contracted at b) p) 20000000
-    rest-within p b u l =
-        ⊎-elim
-        (λ t. subst (λ (z : ℤ). Within z 20000000) (sym (stays distributor tranches (loads at b -ℤ contracted at b) p (eqb-true (total tranches) 0 t))) (only-within (eqb distributor p) (record { within = given .each b l .small })))
-        (λ t. subst (λ (z : ℤ). Within z 20000000) (sym (is-shared distributor tranches (loads at b -ℤ contracted at b) p (eqb-false (total tranches) 0 t))) (part-within (splits-over auction (given .each b l) (eqb-false (total tranches) 0 t)) p (omega (arith, auction .all))))
-        (either (eqb (total tranches) 0))
-
-    pub rests-small : {before table : List ℤ} (j : ℕ) → Cells n before 100000000000 → AddedCells n (firstRest j) before table → Cells n table 1000000000000
-    rests-small j c x = added-cells 1000000000000 x c (λ p b u l. only-within (ltb b j) (rest-within p b u l)) (omega arith)
+  pub rests-small : {before table : List ℤ} (j : ℕ) → ((remaining : ℤ) (p : ℕ) → Ranged remaining → Within (give remaining p) 2000000000) → Remainings n loads contracted
+      → Cells n before 100000000000 → AddedCells n (firstRest j) before table → Cells n table 1000000000000
+  rests-small j small given c x = added-cells 1000000000000 x c (λ p b u l. only-within (ltb b j) (small (loads at b -ℤ contracted at b) p (given .each b l))) (omega arith)
 
 -- ---- the load covers the contracts
 

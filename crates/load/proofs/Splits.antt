@@ -10,11 +10,9 @@ use lib.Seq.{length-take-le}
 use borrow.Author.Tests.{le-leb, le-ltb, eq-eqb}
 use Rattle.ints.specs.Number.{below0, signed, between}
 use Rattle.ints.specs.InsideRange.{Within, Short}
-use Rattle.ints.specs.Refusal.{lent}
 use Rattle.ints.specs.Sum.{sum}
 use Rattle.ints.specs.Table.{_at_}
 use Rattle.ints.proofs.Eachs.{all-each}
-use Rattle.ints.proofs.Refusals.{lent-result}
 use Rattle.ints.proofs.Signs.{signed-sum, size-signed}
 use Rattle.ints.proofs.Sizes.{w-up}
 use Rattle.ints.proofs.Sums.{sumTo-ext}
@@ -44,25 +42,27 @@ part-at amount shares i l = getD-tab (λ i. signed (below0 amount) (part (natAbs
 pub part-within : {amount : ℤ} {shares : List ℤ} → Splittable amount shares → (i : ℕ) → i < length shares → Within (parts amount shares at i) 20000000
 part-within {amount} {shares} s i l = record { within = omega (arith, ap natAbs (part-at amount shares i l) ∙ size-signed (below0 amount) (part (natAbs amount) shares i), part-size amount shares (length shares) (s .accepted) i l, s .ranged .small) }
 
+-- kW are not below 0
+pub not-below : {amount : ℤ} {shares : List ℤ} → Splittable amount shares → below0 amount ≡ false
+not-below {amount} s = ap below0 (s .ranged .natural) ∙ le-ltb (natAbs amount) 0 (omega arith)
+
 -- a part of kW is kW
 pub part-natural : {amount : ℤ} {shares : List ℤ} → Splittable amount shares → (i : ℕ) → i < length shares → parts amount shares at i ≡ pos (part (natAbs amount) shares i)
 part-natural {amount} {shares} s i l =
-    part-at amount shares i l ∙ ap (λ (z : ℤ). signed (below0 z) (part (natAbs amount) shares i)) (s .ranged .natural)
-    ∙ ap (λ (t : Bool). signed t (part (natAbs amount) shares i)) (le-ltb (natAbs amount) 0 (omega arith))
+    part-at amount shares i l ∙ ap (λ (t : Bool). signed t (part (natAbs amount) shares i)) (not-below s)
 
 pub part-ranged : {amount : ℤ} {shares : List ℤ} → Splittable amount shares → (i : ℕ) → i < length shares → Ranged (parts amount shares at i)
 part-ranged s i l = record { natural = part-natural s i l ∙ ap (λ (z : ℤ). pos (natAbs z)) (sym (part-natural s i l)); small = part-within s i l .within }
 
--- a list whose front was lent to a split that is accepted
-pub portion-of : (amount : ℤ) (shares made after : List ℤ) (answer : ℕ) → Splittable amount shares
-    → answer ≡ splitRefusal amount shares (length shares) → after ≡ lent answer (parts amount shares ++ drop (length shares) made) made → Portion amount shares after
-portion-of amount shares made after answer s e f = record {
-  long = omega (arith, ap length is ∙ length-append (parts amount shares) (drop (length shares) made), length-parts amount shares);
-  each = λ i l. ap (λ (list : List ℤ). list at i) is ∙ List·getD-append (parts amount shares) (drop (length shares) made) (pos 0) i (omega (arith, length-parts amount shares));
+-- a list whose front is the parts
+pub portion-of : (amount : ℤ) (shares made rest : List ℤ) → made ≡ parts amount shares → Portion amount shares (made ++ rest)
+portion-of amount shares made rest e = record {
+  long = omega (arith, length-append made rest, long);
+  each = λ i l. List·getD-append made rest (pos 0) i (omega (arith, long)) ∙ ap (λ (list : List ℤ). list at i) e;
 }
   where
-    is : after ≡ parts amount shares ++ drop (length shares) made
-    is = f ∙ lent-result answer (parts amount shares ++ drop (length shares) made) made (e ∙ s .accepted)
+    long : length made ≡ length shares
+    long = ap length e ∙ length-parts amount shares
 
 pub portion-range : {amount : ℤ} {shares made : List ℤ} → Splittable amount shares → Portion amount shares made → FrontWithin made (length shares) 1000000000000
 portion-range s p = record { each = λ i l. subst (λ (z : ℤ). Within z 1000000000000) (sym (p .each i l)) (w-up (part-within s i l) (omega arith)) }

@@ -106,7 +106,7 @@ module _ (d : LoadGiven) (n : ℕ) (accepts : loadRefusal d n ≡ 0) where
 
     module _ (some : total (d .tranches) ≡ 0 → ⊥) where
       rest-splits : Splittable (rest d b) (d .tranches)
-      rest-splits = splits-over (facts .auction-given) (rest-ranged b l) some
+      rest-splits = splits-over (facts .auction-given .tested) (rest-ranged b l) some
 
       -- over the winners of tranches
       pub rest-fair : Fair (rest d b) (d .tranches) (parts (rest d b) (d .tranches)) × ((p : ℕ) → won p ≡ parts (rest d b) (d .tranches) at p)

@@ -2,11 +2,14 @@
 use mathlib.Core.Path.{_≡_}
 use mathlib.Core.List.{List}
 use Prim.Native.Nat.{ℕ, _+_, _*_, _≤_, _<_}
+use lib.Dec.{eqb}
 use lib.IntN.{ℤ, pos, natAbs, _+ℤ_, _-ℤ_}
-use lib.ListN.{length}
+use lib.ListN.{length, getD, replicate}
 use Rattle.ints.specs.InsideRange.{Short}
+use Rattle.ints.specs.Refusal.{pick}
+use Rattle.ints.specs.Sum.{sumTo, sumN, only}
 use Rattle.ints.specs.Table.{_at_}
-use Rattle.split.specs.Split.{parts, splitRefusal}
+use Rattle.split.specs.Split.{share, total, parts, splitRefusal}
 use Rattle.split.specs.Inside.{Shares}
 use Rattle.load.specs.Load.{identity, supplier, area, kw, contractCount, partsOf, contractLoad, contracted, auctioned}
 use Rattle.load.specs.InsideTable.{Cells}
@@ -34,17 +37,15 @@ pub record Areas (areas n : ℕ) (areaParts : List ℤ) : Type 0 where
 
 -- the assignment and what is contracted (a table of one row), with room for more
 pub record RoomInTables (n : ℕ) (table contracted : List ℤ) : Type 0 where
-  pub table-long : length table ≡ 4096
+  pub table-long : length table ≡ 64 * n
   pub contracted-long : length contracted ≡ 64
   pub table-small : Cells n table 1000000000000
   pub contracted-small : Cells n contracted 1000000000000
 
 -- the same before the first contract
 pub record Empty (n : ℕ) (table contracted : List ℤ) : Type 0 where
-  pub table-long : length table ≡ 4096
-  pub contracted-long : length contracted ≡ 64
-  pub table-empty : Cells n table 0
-  pub contracted-empty : Cells n contracted 0
+  pub table-empty : table ≡ replicate (64 * n) (pos 0)
+  pub contracted-empty : contracted ≡ replicate 64 (pos 0)
 
 -- contracts that passed the tests
 pub record Contracts (n : ℕ) (areaParts contracts : List ℤ) : Type 0 where
@@ -53,6 +54,7 @@ pub record Contracts (n : ℕ) (areaParts contracts : List ℤ) : Type 0 where
   pub supplied : (j : ℕ) → j < contractCount contracts → identity (supplier contracts j) < 64
   pub placed : (j : ℕ) → j < contractCount contracts → identity (area contracts j) * n + n ≤ length areaParts
   pub splits : (j : ℕ) → j < contractCount contracts → Splittable (kw contracts j) (partsOf n areaParts (identity (area contracts j)))
+  pub whole : (j : ℕ) → j < contractCount contracts → total (partsOf n areaParts (identity (area contracts j))) ≡ 1000000
 
 -- tranches and a distributor that passed the tests
 pub record Auction (n distributor : ℕ) (tranches : List ℤ) : Type 0 where
@@ -60,6 +62,27 @@ pub record Auction (n distributor : ℕ) (tranches : List ℤ) : Type 0 where
   pub named : distributor < 64
   pub tested : Shares tranches
   pub all : length tranches ≡ 64
+
+-- the tranches of the first n participants that aren't 0, in their order: m of them in the front of a list, and in the front of another who won each. What is 0 for each tranche of 0 comes
+-- to the same over these
+pub record Packed (tranches : List ℤ) (n : ℕ) (won : List ℤ) (winners : List ℕ) (m : ℕ) : Type 0 where
+  pub few : m ≤ n
+  pub each : (j : ℕ) → j < m → won at j ≡ tranches at getD winners j 0
+  pub named : (j : ℕ) → j < m → getD winners j 0 < n
+  pub ordered : (j k : ℕ) → j < k → k < m → getD winners j 0 < getD winners k 0
+  pub sums : (f : ℕ → ℕ) → ((i : ℕ) → share tranches i ≡ 0 → f i ≡ 0) → sumN (λ j. f (getD winners j 0)) m ≡ sumN f n
+
+-- tranches and their winners, and a distributor
+pub record Won (distributor : ℕ) (won : List ℤ) (winners : List ℕ) : Type 0 where
+  pub distributed : distributor < 64
+  pub tested : Shares won
+  pub beside : length winners ≡ length won
+  pub named : (j : ℕ) → j < length won → getD winners j 0 < 64
+
+-- participant p's part of what remains at a bus, by these
+unfoldable pub wonPart : ℕ → List ℤ → List ℕ → ℤ → ℕ → ℤ
+wonPart distributor won winners remaining p =
+    pick (eqb (total won) 0) (only (eqb distributor p) remaining) (sumTo (λ j. only (eqb (getD winners j 0) p) (parts remaining won at j)) (length won))
 
 -- what is contracted leaves such kW at each of n buses
 pub record Remainings (n : ℕ) (loads contracted : List ℤ) : Type 0 where

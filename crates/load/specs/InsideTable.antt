@@ -1,7 +1,7 @@
 -- A table of 64 rows of n numbers, one after the other, and what is added in it: for proofs and loops, not to be believed. Assumes nothing.
 use mathlib.Core.Path.{_≡_}
 use mathlib.Core.List.{List}
-use Prim.Native.Nat.{ℕ, _+_, _*_, _≤_, _<_}
+use Prim.Native.Nat.{ℕ, _*_, _≤_, _<_}
 use lib.Dec.{eqb}
 use lib.IntN.{ℤ, _+ℤ_}
 use lib.ListN.{length}
@@ -14,18 +14,18 @@ use Rattle.load.specs.Load.{cell}
 pub record FrontWithin (list : List ℤ) (n k : ℕ) : Type 0 where
   pub each : (i : ℕ) → i < n → Within (list at i) k
 
--- n parts can be added to the numbers at start, start + step, .. : these are there, and no sum is too large
-pub record Room (table : List ℤ) (start step : ℕ) (parts : List ℤ) (n : ℕ) : Type 0 where
+-- n parts can be added, part i to the number at `place i`: these are there, and no sum is too large
+pub record Room (table : List ℤ) (place : ℕ → ℕ) (parts : List ℤ) (n : ℕ) : Type 0 where
   pub few : n ≤ 64
   pub given : n ≤ length parts
-  pub within : (i : ℕ) → i < n → start + i * step < length table
-  pub before : (i : ℕ) → i < n → Within (table at (start + i * step)) 1000000000000
+  pub within : (i : ℕ) → i < n → place i < length table
+  pub before : (i : ℕ) → i < n → Within (table at place i) 1000000000000
   pub small : FrontWithin parts n 1000000000000
 
 -- n parts were added to these
-pub record Spread (before : List ℤ) (start step : ℕ) (parts : List ℤ) (n : ℕ) (after : List ℤ) : Type 0 where
+pub record Spread (before : List ℤ) (place : ℕ → ℕ) (parts : List ℤ) (n : ℕ) (after : List ℤ) : Type 0 where
   pub same : length after ≡ length before
-  pub each : (k : ℕ) → after at k ≡ before at k +ℤ sumTo (λ i. only (eqb (start + i * step) k) (parts at i)) n
+  pub each : (k : ℕ) → after at k ≡ before at k +ℤ sumTo (λ i. only (eqb (place i) k) (parts at i)) n
 
 -- each number of the 64 rows is within a bound
 pub record Cells (n : ℕ) (table : List ℤ) (k : ℕ) : Type 0 where

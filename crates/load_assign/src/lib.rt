@@ -1,15 +1,16 @@
 // Load at the buses: metered load, contracts and tranches handed out to those who supply it.
 ghost use mathlib.Core.Path.{_≡_};
 ghost use mathlib.Core.List.{_++_};
-ghost use Prim.Native.Nat.{_≤_};
-ghost use lib.ListN.{length, drop};
+ghost use Prim.Native.Nat.{_*_, _≤_};
+ghost use lib.IntN.{pos};
+ghost use lib.ListN.{length, drop, replicate};
 ghost use lib.Signed.{leZ};
 ghost use Rattle.ints.specs.Each.{allTo};
 ghost use Rattle.ints.specs.Refusal.{lent};
 ghost use Rattle.ints.specs.Table.{_at_};
 ghost use Rattle.load.specs.Load.{busLoads, loadGiven};
 ghost use Rattle.load.specs.Order.{metersRefusal, contractsRefusal, loadRefusal, loadOutcome};
-ghost use Rattle.load.specs.InsideTable.{Cells, AddedCells};
+ghost use Rattle.load.specs.InsideTable.{AddedCells};
 ghost use Rattle.load.specs.Inside.{Contracts, Auction, Loads, MetersGiven, handed as Inside·handed};
 
 // ---- Step 1: the load at each bus.
@@ -62,7 +63,7 @@ fn all_covered(contracted: &[i64], loads: &[i64], n: usize) -> bool
     true
 }
 
-// Steps 2 and 3 at n buses: 8 where the contracts exceed a load, or 0.
+// Steps 2 and 3 at n buses, added in a table of zeros: 8 where the contracts exceed a load, or 0.
 fn hand_out(
     n: usize,
     loads: &[i64],
@@ -73,7 +74,7 @@ fn hand_out(
     table: &mut [i64],
 ) -> u32
     requires { ⌜ Contracts n (now «area_parts») (now contracts) × Auction n distributor (now tranches) ⌝ }
-    requires { ⌜ Loads n (now loads) × (length (now table) ≡ 4096) × Cells n (now table) 0 ⌝ }
+    requires { ⌜ Loads n (now loads) × (now table ≡ replicate (64 * n) (pos 0)) ⌝ }
     ensures { λ r. ⌜ r ≡ contractsRefusal n (now («area_parts» .entry)) (now (contracts .entry)) (λ b. now (loads .entry) at b) ⌝ }
     ensures { λ r. ⌜ (r ≡ 0 → AddedCells n (Inside·handed n (now («area_parts» .entry)) (now (contracts .entry)) distributor (now (tranches .entry)) (λ b. now (loads .entry) at b)) (now (table .entry)) (now (table .exit))) ⌝ }
 {
@@ -88,7 +89,7 @@ fn hand_out(
 
 // ---- The assignment.
 
-// The load at the buses of one distributor, assigned to 64 participants: the refusal, or 0.
+// The load at the buses of one distributor, assigned to 64 participants: the refusal, or 0. The list for the result is lent with zeros: it is the table in which loads are added, and it is cleared where they were and the call is refused.
 pub fn assign(
     metered: i64,
     distributor: i64,
@@ -101,6 +102,7 @@ pub fn assign(
     tranches: &[i64],
     out: &mut [i64],
 ) -> u32
+    requires { ⌜ now out ≡ replicate (length (now out)) (pos 0) ⌝ }
     ensures { λ r. ⌜ r ≡ loadRefusal (loadGiven metered distributor (now (loads .entry)) (now (imports .entry)) (now (generation .entry)) areas (now («area_parts» .entry)) (now (contracts .entry)) (now (tranches .entry))) (length (now (out .entry))) ⌝ }
     ensures { λ _. ⌜ now (out .exit) ≡ loadOutcome (loadGiven metered distributor (now (loads .entry)) (now (imports .entry)) (now (generation .entry)) areas (now («area_parts» .entry)) (now (contracts .entry)) (now (tranches .entry))) (now (out .entry)) ⌝ }
 {
@@ -124,7 +126,6 @@ pub fn assign(
     if loaded != 0 {
         return loaded;
     }
-    let mut table = [0i64; 4096];
     let handed = hand_out(
         loads.len(),
         &served,
@@ -132,11 +133,11 @@ pub fn assign(
         contracts,
         ints::size(distributor) as usize,
         tranches,
-        &mut table,
+        out,
     );
     if handed != 0 {
+        ints::clear(out);
         return handed;
     }
-    ints::copy(&table, out);
     0
 }

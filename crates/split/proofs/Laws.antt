@@ -72,6 +72,18 @@ module _ (size : ℕ) (shares : List ℤ) where
   unfolding part
   part-is i = refl
 
+  -- of a share of 0 nothing is cut down, and there is no remainder
+  no-product : (i : ℕ) → share shares i ≡ 0 → size * share shares i ≡ 0
+  no-product i e = ap (λ (x : ℕ). size * x) e ∙ mul-zero size
+
+  pub zero-cut : (i : ℕ) → share shares i ≡ 0 → q i ≡ 0
+  unfolding cutDown
+  zero-cut i e = ap (λ (x : ℕ). x / t) (no-product i e) ∙ zero-div t
+
+  pub zero-remainder : (i : ℕ) → share shares i ≡ 0 → r i ≡ 0
+  unfolding remainder
+  zero-remainder i e = ap (λ (x : ℕ). x % t) (no-product i e) ∙ zero-mod t
+
   module _ (some : 0 < t) where
     pub small : (i : ℕ) → r i < t
     unfolding remainder
@@ -120,17 +132,7 @@ module _ (size : ℕ) (shares : List ℤ) where
     no-remainder i e = le-ltb (place r n i) left (omega (arith, left-few, behind r n i e))
 
     pub zero-part : (i : ℕ) → share shares i ≡ 0 → part size shares i ≡ 0
-    unfolding cutDown remainder
-    zero-part i e =
-        omega (
-          arith,
-          part-is i,
-          ap (λ (x : ℕ). x / t) none ∙ zero-div t,
-          ap one (no-remainder i (ap (λ (x : ℕ). x % t) none ∙ zero-mod t)),
-        )
-      where
-        none : size * share shares i ≡ 0
-        none = ap (λ (x : ℕ). size * x) e ∙ mul-zero size
+    zero-part i e = omega (arith, part-is i, zero-cut i e, ap one (no-remainder i (zero-remainder i e)))
 
     -- ---- of two parties the larger share never gets the smaller part
     cut-le : (i j : ℕ) → share shares j ≤ share shares i → q j ≤ q i

@@ -6,7 +6,7 @@ ghost use lib.ListN.{length, drop};
 ghost use Rattle.text.specs.Inside.{Written};
 ghost use Rattle.exercise.specs.Order.{frameRefusal};
 ghost use Rattle.exercise.specs.File.{hourOf};
-ghost use Rattle.hour_settle.specs.Inside.{Outputs};
+ghost use Rattle.hour_settle.specs.Inside.{Cleared, Outputs};
 ghost use Rattle.statement.specs.Statement.{statementOf};
 use libc::STDIN_FILENO;
 use libc::STDOUT_FILENO;
@@ -22,6 +22,7 @@ fn put_hour(
 ) -> usize
     requires { ⌜ (frameRefusal (now file) ≡ 0) × (6825 ≤ length (now page)) ⌝ }
     requires { ⌜ Outputs (hourOf (now file) .participants) (now congestion) (now loss) (now credit) (now net) ⌝ }
+    requires { ⌜ Cleared (now congestion) (now loss) (now credit) ⌝ }
     ensures { λ r. ⌜ Written (now (page .entry)) 0 (statementOf (now (file .entry))) (now (page .exit)) r ⌝ }
     ensures { λ r. ⌜ r ≤ 6825 ⌝ }
 {

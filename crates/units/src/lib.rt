@@ -1,7 +1,6 @@
 // Document 01: "Kilowatts, mills and cents are never added to one another". A struct for each unit, and the only
 // functions in which one becomes another.
 ghost use mathlib.Core.Path.{_≡_};
-ghost use Prim.Native.Nat.{_≤_};
 ghost use lib.IntN.{pos, negℤ, _-ℤ_};
 ghost use Rattle.ints.specs.InsideRange.{Within};
 ghost use Rattle.units.specs.Units.{centsOf};
@@ -9,6 +8,9 @@ ghost use Rattle.units.specs.Inside.{chargeOf, wholeHour};
 
 // Kilowatts. That they are 0 to 20,000,000 is tested where they are read, and asked for by `charge_of`.
 pub struct Kw(pub u32);
+
+// Kilowatts withdrawn less kilowatts injected: above 0 they are charged, below 0 reimbursed.
+pub struct NetKw(pub i64);
 
 // Mills (0.001 dollar) per MWh: a price, or a weight made of prices.
 pub struct Mills(pub i64);
@@ -19,12 +21,26 @@ pub struct Twelfths(pub i64);
 // Cents: a charge as it is billed.
 pub struct Cents(pub i64);
 
-// The charge of kW at a price, for one interval, or at a weight. A weight is at most that of a path: 24 prices at each of its two ends.
-pub fn charge_of(kw: Kw, price: Mills) -> Twelfths
-    requires { ⌜ (kw .0 ≤ 20000000) × Within (price .0) 240000000 ⌝ }
-    ensures { λ r. ⌜ r .0 ≡ chargeOf (pos (kw .0)) (price .0) ⌝ }
+// What is withdrawn.
+pub fn withdrawn(kw: Kw) -> NetKw
+    ensures { λ r. ⌜ r .0 ≡ pos (kw .0) ⌝ }
 {
-    Twelfths(kw.0 as i64 * price.0)
+    NetKw(kw.0 as i64)
+}
+
+// What is injected.
+pub fn injected(kw: Kw) -> NetKw
+    ensures { λ r. ⌜ r .0 ≡ negℤ (pos (kw .0)) ⌝ }
+{
+    NetKw(ints::with_sign(true, kw.0 as u64))
+}
+
+// The charge of kW at a price, for one interval, or at a weight. A weight is at most that of a path: 24 prices at each of its two ends.
+pub fn charge_of(kw: NetKw, price: Mills) -> Twelfths
+    requires { ⌜ Within (kw .0) 20000000 × Within (price .0) 240000000 ⌝ }
+    ensures { λ r. ⌜ r .0 ≡ chargeOf (kw .0) (price .0) ⌝ }
+{
+    Twelfths(kw.0 * price.0)
 }
 
 // The weight of a price that holds for the whole hour.

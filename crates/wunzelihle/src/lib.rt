@@ -118,25 +118,7 @@ pub extern "C" fn wz_settle_hour(
     ensures { λ r. ⌜ now (credit .exit) ≡ lent r (encoded (credits (hourOf (now (file .entry))))) (now (credit .entry)) ⌝ }
     ensures { λ r. ⌜ now (net .exit) ≡ lent r (encoded (nets (hourOf (now (file .entry))))) (now (net .entry)) ⌝ }
 {
-    let mut congestion_cents = [0i64; 64];
-    let mut loss_cents = [0i64; 64];
-    let mut credit_cents = [0i64; 64];
-    let mut net_cents = [0i64; 64];
-    let c = hour_bytes::hourly_count(congestion.len());
-    let l = hour_bytes::hourly_count(loss.len());
-    let k = hour_bytes::hourly_count(credit.len());
-    let n = hour_bytes::hourly_count(net.len());
-    hour_bytes::settle_into(
-        file,
-        congestion,
-        loss,
-        credit,
-        net,
-        &mut congestion_cents[..c],
-        &mut loss_cents[..l],
-        &mut credit_cents[..k],
-        &mut net_cents[..n],
-    )
+    hour_bytes::settle_bytes(file, congestion, loss, credit, net)
 }
 
 #[no_mangle]

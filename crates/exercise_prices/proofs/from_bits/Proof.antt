@@ -1,33 +1,44 @@
 -- `exercise_prices::from_bits` meets its contract. Assumes nothing.
-use mathlib.Core.Path.{_≡_, ap, _∙_}
-use Prim.Native.Nat.{suc, _-_, _^_}
+use mathlib.Core.Path.{_≡_, sym, ap, ap₂, _∙_, subst}
+use Prim.Native.Nat.{ℕ, _+_, _%_, _<_, _^_}
 use native.Mathlib.Omega.{arith}
-use lib.IntN.{negsuc}
+use lib.IntN.{ℤ, _-ℤ_}
 use mir.Syntax.{w64}
-use mir.Val.{toZ}
-use mir.Facts.{toZ-pos, toZ-neg}
+use mir.Val.{toZ, ofZ}
+use mir.Facts.{toZ-pos}
 use borrow.Author.Needs.{needs}
-use borrow.Author.Tests.{lt-ltb, le-ltb}
+use Rattle.ints.specs.InsideRange.{Within}
+use Rattle.ints.specs.Twos.{twos}
+use Rattle.ints.proofs.Sizes.{w-fits, w-read}
+use Rattle.exercise.proofs.Prices.{bits-within, moved}
 use Rattle.exercise_prices.proofs.from_bits.Statement.{statement}
 use Rattle.exercise_prices.proofs.from_bits.Tie as tie
+
+module _ (s : tie.Start) where
+  abbrev u : ℕ
+  u = s .args .u
+
+  small : Within (twos 24 u) 8388608
+  small = bits-within u (s .pre)
+
+  number : toZ w64 ((u + 8388608) % 16777216) -ℤ toZ w64 8388608 ≡ twos 24 u
+  number =
+      let below : (u + 8388608) % 16777216 < 2 ^ 63 = omega arith in
+      ap₂ _-ℤ_ (toZ-pos w64 below) (toZ-pos w64 {n = 8388608} (omega arith)) ∙ moved u (s .pre)
+
+add-result : tie.Need-add-result
+add-result c = search needs
 
 cast-result : tie.Need-cast-result
 cast-result c = search needs
 
 sub-result : tie.Need-sub-result
-sub-result c = search needs
-
-cast-result-2 : tie.Need-cast-result-2
-cast-result-2 c = search needs
+sub-result c = rw (number c) (w-fits (small c) tt)
 
 returns : tie.Need-returns
-returns c = simp (toZ-pos w64 {n = c .before .args .u} (omega arith), lt-ltb _ _ (c .if1 .taken))
-
-returns-2 : tie.Need-returns-2
-returns-2 c = let u = c .before .args .u in
-    let e : 18446744073709551615 - (16777215 - u) ≡ 2 ^ 64 - suc (16777215 - u) = omega arith in
-    let f : 16777215 - u ≡ 2 ^ 24 - suc u = omega arith in
-    ap (toZ w64) e ∙ toZ-neg w64 (16777215 - u) (omega arith) ∙ simp (le-ltb _ _ (c .if1 .left)) (ap negsuc f)
+returns c =
+    let e = ap (λ (z : ℤ). toZ w64 (ofZ w64 z)) (number c) ∙ w-read (small c) tt in
+    (e, subst (λ (z : ℤ). Within z 8388608) (sym e) (small c))
 
 pub from-bits-spec : {M : Type 1} → statement M
-from-bits-spec = tie.close (tie.spec cast-result sub-result cast-result-2 returns returns-2)
+from-bits-spec = tie.close (tie.spec add-result cast-result sub-result returns)

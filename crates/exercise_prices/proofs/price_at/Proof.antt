@@ -16,7 +16,7 @@ from-bits-requires : tie.Need-from-bits-requires
 from-bits-requires c κs = search needs
 
 returns : tie.Need-returns
-returns c = toZ-ofZ (sfits-of (c .from-bits .ok)) ∙ c .from-bits .ensures ∙ ap (twos 24) (c .before .three-at .ensures .0)
+returns c = toZ-ofZ (sfits-of (c .from-bits .ok)) ∙ c .from-bits .ensures .0 ∙ ap (twos 24) (c .before .three-at .ensures .0)
 
 pub price-at-spec : {M : Type 1} → statement M
 price-at-spec = tie.close (tie.spec mul-three-at three-at-requires from-bits-requires returns)

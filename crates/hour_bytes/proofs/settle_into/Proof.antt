@@ -20,7 +20,7 @@ given t = t .before .before .before .before .before .before .before .before .bef
 answer : (t : tie.After-settle) → let s = given t in
     t .settle .result ≡ hourRefusal inBytes (s .args .file .now) (four (length (s .args .congestion .now)) (length (s .args .loss .now)) (length (s .args .credit .now)) (length (s .args .net .now)))
 answer t = let s = given t in
-    t .settle .ensures .0 ∙ settled-refusal _ _ _ _ _ _ _ _ _ (s .pre .0) (s .pre .1) (s .pre .2) (s .pre .3)
+    t .settle .ensures .0 ∙ settled-refusal _ _ _ _ _ _ _ _ _ (s .pre .0 .0) (s .pre .0 .1) (s .pre .0 .2) (s .pre .0 .3)
 
 -- where it was accepted: every slice has eight bytes for each number of its list
 module _ (l : tie.Else1) where
@@ -38,7 +38,7 @@ module _ (l : tie.Else1) where
   bytes-eight e h k = e ∙ ap (λ (n : ℕ). 8 * n) (sym (k ∙ h ∙ numbers-in (given settled .args .file .now) 0 0 0 0 e))
 
 settle-requires : tie.Need-settle-requires
-settle-requires c κs = search needs
+settle-requires c κs = c .before .before .before .before .before .before .before .before .before .pre .1
 
 same-length : tie.Need-same-length
 same-length c = search needs
@@ -55,23 +55,23 @@ same-length-4 c = search needs
 returns : tie.Need-returns
 returns c = let t = c .before .before .before .before .before in
     let some = c .if1 .taken in
-    (answer t, (lent-before _ _ _ some, (lent-before _ _ _ some, (lent-before _ _ _ some, (lent-before _ _ _ some, t .settle .ensures .1)))))
+    (answer t, (lent-before _ _ _ some, (lent-before _ _ _ some, (lent-before _ _ _ some, lent-before _ _ _ some))))
 
 write-all-requires : tie.Need-write-all-requires
 write-all-requires c κs = let l = c .before .before in
-    bytes-eight l (all l .0) (given (settled l) .pre .0) (settled l .settle .kept .1 .0)
+    bytes-eight l (all l .0) (given (settled l) .pre .0 .0) (settled l .settle .kept .1 .0)
 
 write-all-requires-2 : tie.Need-write-all-requires-2
 write-all-requires-2 c κs = let l = c .before .before .before .before .before .before .before in
-    bytes-eight l (all l .1) (given (settled l) .pre .1) (settled l .settle .kept .1 .1 .0)
+    bytes-eight l (all l .1) (given (settled l) .pre .0 .1) (settled l .settle .kept .1 .1 .0)
 
 write-all-requires-3 : tie.Need-write-all-requires-3
 write-all-requires-3 c κs = let l = c .before .before .before .before .before .before .before .before .before .before .before .before in
-    bytes-eight l (all l .2) (given (settled l) .pre .2) (settled l .settle .kept .1 .1 .1 .0)
+    bytes-eight l (all l .2) (given (settled l) .pre .0 .2) (settled l .settle .kept .1 .1 .1 .0)
 
 write-all-requires-4 : tie.Need-write-all-requires-4
 write-all-requires-4 c κs = let l = c .before .before .before .before .before .before .before .before .before .before .before .before .before .before .before .before .before in
-    bytes-eight l (all l .3) (given (settled l) .pre .3) (settled l .settle .kept .1 .1 .1 .1 .0)
+    bytes-eight l (all l .3) (given (settled l) .pre .0 .3) (settled l .settle .kept .1 .1 .1 .1 .0)
 
 same-length-5 : tie.Need-same-length-5
 same-length-5 c = search needs
@@ -110,7 +110,7 @@ returns-2 c = let w4 = c .before .before in
     let loss-is = e .1 .0 ∙ lent-result _ _ _ z in
     let credit-is = e .1 .1 .0 ∙ lent-result _ _ _ z in
     let net-is = e .1 .1 .1 ∙ lent-result _ _ _ z in
-    (sym z ∙ answer t, (w1 .write-all .ensures ∙ ap encoded congestion-is, (w2 .write-all2 .ensures ∙ ap encoded loss-is, (w3 .write-all3 .ensures ∙ ap encoded credit-is, (w4 .write-all4 .ensures ∙ ap encoded net-is, (congestion-is, (loss-is, (credit-is, net-is))))))))
+    (sym z ∙ answer t, (w1 .write-all .ensures ∙ ap encoded congestion-is, (w2 .write-all2 .ensures ∙ ap encoded loss-is, (w3 .write-all3 .ensures ∙ ap encoded credit-is, w4 .write-all4 .ensures ∙ ap encoded net-is))))
 
 pub settle-into-spec : {M : Type 1} → statement M
 settle-into-spec =

@@ -2,6 +2,7 @@
 use mathlib.Core.Path.{_≡_, sym, ap, _∙_, subst}
 use mathlib.Core.List.{List}
 use Prim.Native.Nat.{ℕ, _*_, _≤_}
+use native.Mathlib.Omega.{arith}
 use lib.IntN.{ℤ}
 use lib.ListN.{length}
 use borrow.Author.Needs.{needs}
@@ -19,9 +20,9 @@ abbrev given : tie.After-charge-rows → tie.Start
 given r = r .before .before .before .before .before .before
 
 -- what was added in the edition that was read
-in-edition : {edition own : Edition} (s : List ℕ) (n locations : ℕ) (weights real : List ℤ) {before after : List ℤ} → edition ≡ own
-    → TransactionsAdded edition (transactionsIn edition s n) locations weights real before after → TransactionsAdded own (transactionsIn own s n) locations weights real before after
-in-edition s n locations weights real {before} {after} = subst (λ (edition : Edition). TransactionsAdded edition (transactionsIn edition s n) locations weights real before after)
+in-edition : {edition own : Edition} (s : List ℕ) (n locations : ℕ) (table : List ℤ) {before after : List ℤ} → edition ≡ own
+    → TransactionsAdded edition (transactionsIn edition s n) locations table before after → TransactionsAdded own (transactionsIn own s n) locations table before after
+in-edition s n locations table {before} {after} = subst (λ (edition : Edition). TransactionsAdded edition (transactionsIn edition s n) locations table before after)
 
 charge-rows-requires : tie.Need-charge-rows-requires
 charge-rows-requires c κs = search needs
@@ -48,15 +49,14 @@ charge-transactions-requires c κs = let k = c .before .before in
     let r = l .before .before .before .before in
     let s = given r in (
       (
-        s .pre .0 .0,
-        s .pre .0 .2,
-        subst (λ (edition : Edition). transactionSize edition * s .args .header .transactions ≤ length (s .args .transactions .now)) (sym (k .edition-of .ensures)) (s .pre .0 .4),
+        s .pre .0 .1,
+        subst (λ (edition : Edition). transactionSize edition * s .args .header .transactions ≤ length (s .args .transactions .now)) (sym (k .edition-of .ensures)) (s .pre .0 .3),
       ),
       (
         s .pre .1 .0,
         (
-          record { long = r .charge-rows .kept .1 .1 .1 .1 .1 .1 .1 .1 .0 ∙ s .pre .1 .1 .0 .long; range = r .charge-rows .ensures .1 .0 (l .if1 .left) .1 },
-          record { long = r .charge-rows .kept .1 .1 .1 .1 .1 .1 .1 .1 .1 .0 ∙ s .pre .1 .1 .1 .long; range = r .charge-rows .ensures .1 .1 .0 (l .if1 .left) .1 },
+          record { long = omega (arith, r .charge-rows .kept .1 .1 .1 .1 .1 .1 .0, s .pre .1 .1 .0 .long); range = r .charge-rows .ensures .1 .0 (l .if1 .left) .1 },
+          record { long = omega (arith, r .charge-rows .kept .1 .1 .1 .1 .1 .1 .1 .0, s .pre .1 .1 .1 .long); range = r .charge-rows .ensures .1 .1 .0 (l .if1 .left) .1 },
         ),
       ),
     )
@@ -83,10 +83,10 @@ returns-2 c = let t = c .before .before in
           ∙ ap (λ (edition : Edition). transactionsInRefusal edition (a .header .participants) (a .header .locations) (a .transactions .now) (a .header .transactions)) e
           ∙ then-follows _ _ _ (l .if1 .left) (r .charge-rows .ensures .0),
       (
-        λ z. both-added (s .args .header) _ _ _ _ (s .pre .1 .1 .0) (m .0 (l .if1 .left) .0) (in-edition (a .transactions .now) (a .header .transactions) (a .header .locations) (a .congestion-weights .now) (a .congestion-real .now) e (t .charge-transactions .ensures .1 .0 z)),
+        λ z. both-added (s .args .header) _ _ _ (s .pre .1 .1 .0 .range) (m .0 (l .if1 .left) .0) (in-edition (a .transactions .now) (a .header .transactions) (a .header .locations) (a .congestion .now) e (t .charge-transactions .ensures .1 .0 z)),
         (
-          λ z. both-added (s .args .header) _ _ _ _ (s .pre .1 .1 .1) (m .1 .0 (l .if1 .left) .0) (in-edition (a .transactions .now) (a .header .transactions) (a .header .locations) (a .loss-weights .now) (a .loss-real .now) e (t .charge-transactions .ensures .1 .1 z)),
-          λ _. shared _ (s .args .header .rows) (s .pre .1 .1 .2) (m .1 .1 (l .if1 .left)),
+          λ z. both-added (s .args .header) _ _ _ (s .pre .1 .1 .1 .range) (m .1 .0 (l .if1 .left) .0) (in-edition (a .transactions .now) (a .header .transactions) (a .header .locations) (a .loss .now) e (t .charge-transactions .ensures .1 .1 z)),
+          λ _. shared _ (s .args .header .rows) (s .pre .1 .1 .2 .range) (m .1 .1 (l .if1 .left)),
         ),
       ),
     )

@@ -1,5 +1,11 @@
 -- `hour_charge::charge_file` meets its contract. Assumes nothing.
+use mathlib.Core.Path.{_≡_, sym, ap, subst}
+use mathlib.Core.List.{List}
+use Prim.Native.Nat.{ℕ}
 use native.Mathlib.Omega.{arith}
+use lib.IntN.{ℤ}
+use Rattle.exercise.specs.declared.Header.{Header}
+use Rattle.hour_charge.specs.Inside.{Totals}
 use borrow.Author.Needs.{needs}
 use Rattle.exercise.proofs.Whole.{Found, found, whole, small-read}
 use Rattle.hour_charge.proofs.Stretches.{its-stretches, file-refusal, file-congestion, file-loss, file-shares}
@@ -11,6 +17,10 @@ given p = p .before .before .before
 
 here : (p : tie.After-places-of) → Found (given p .args .file .now) (p .before .read-header .result) (p .places-of .result)
 here p = found _ (given p .pre .0) _ (p .before .read-header .ensures) _ (p .places-of .ensures)
+
+-- totals for as many participants as were read
+as-read : {m n : ℕ} {totals : List ℤ} → m ≡ n → Totals m totals 0 → Totals n totals 0
+as-read {totals = totals} = subst (λ (k : ℕ). Totals k totals 0)
 
 read-header-requires : tie.Need-read-header-requires
 read-header-requires c κs = whole _ (c .before .pre .0) .begun
@@ -48,7 +58,9 @@ part-charge-stretches-end-3 c = let f = here (c .before .before) in omega arith
 charge-stretches-requires : tie.Need-charge-stretches-requires
 charge-stretches-requires c κs = let p = c .before .before .before .before .before .before in
     let s = given p in
-    (its-stretches _ (s .pre .0) _ (p .before .read-header .ensures) _ (p .places-of .ensures), s .pre .1)
+    let n = ap (λ (h : Header). h .participants) (sym (p .before .read-header .ensures)) in
+    let t = s .pre .1 in
+    (its-stretches _ (s .pre .0) _ (p .before .read-header .ensures) _ (p .places-of .ensures), (as-read n (t .0), as-read n (t .1), as-read n (t .2)))
 
 same-length : tie.Need-same-length
 same-length c = search needs

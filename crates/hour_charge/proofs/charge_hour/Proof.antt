@@ -1,5 +1,8 @@
 -- `hour_charge::charge_hour` meets its contract. Assumes nothing.
-use mathlib.Core.Path.{sym, _∙_}
+use mathlib.Core.Path.{sym, ap, _∙_}
+use Rattle.ints.specs.Table.{tab}
+use Rattle.hour.specs.Charges.{exactCongestion, exactLoss}
+use Rattle.hour.specs.Surplus.{shareOf}
 use borrow.Author.Needs.{needs}
 use Rattle.ints.proofs.Refusals.{lent-before}
 use Rattle.hour_charge.proofs.Added.{as-they-were}
@@ -42,10 +45,10 @@ returns c = let z = c .before in
     let k = f .charge-file .kept .1 in (
       f .charge-file .ensures .0,
       (
-        as-they-were (t .0) (k .0) (x .clear .ensures) ∙ lent-before _ _ _ (i .if1 .taken),
+        as-they-were (t .0 .range) (k .0) (x .clear .ensures) ∙ lent-before _ _ _ (i .if1 .taken),
         (
-          as-they-were (t .1) (k .1 .0) (y .clear2 .ensures) ∙ lent-before _ _ _ (i .if1 .taken),
-          as-they-were (t .2) (k .1 .1 .0) (z .clear3 .ensures) ∙ lent-before _ _ _ (i .if1 .taken),
+          as-they-were (t .1 .range) (k .1 .0) (y .clear2 .ensures) ∙ lent-before _ _ _ (i .if1 .taken),
+          as-they-were (t .2 .range) (k .1 .1 .0) (z .clear3 .ensures) ∙ lent-before _ _ _ (i .if1 .taken),
         ),
       ),
     )
@@ -63,15 +66,14 @@ returns-2 : tie.Need-returns-2
 returns-2 c = let f = c .before .before .before .before in
     let s = given f in
     let hour = hourOf (s .args .file .now) in
-    let t = s .pre .1 in
     let k = f .charge-file .kept .1 in
     let e = f .charge-file .ensures in (
       sym (c .if1 .left) ∙ e .0,
       (
-        congestion-totals hour (k .0 ∙ t .0 .long) (e .1 .0 (c .if1 .left)),
+        congestion-totals hour (e .1 .0 (c .if1 .left)) ∙ ap (tab (exactCongestion hour)) (k .0),
         (
-          loss-totals hour (k .1 .0 ∙ t .1 .long) (e .1 .1 .0 (c .if1 .left)),
-          share-totals hour (k .1 .1 .0 ∙ t .2 .long) (e .1 .1 .1 (c .if1 .left)),
+          loss-totals hour (e .1 .1 .0 (c .if1 .left)) ∙ ap (tab (exactLoss hour)) (k .1 .0),
+          share-totals hour (e .1 .1 .1 (c .if1 .left)) ∙ ap (tab (shareOf hour)) (k .1 .1 .0),
         ),
       ),
     )

@@ -1,12 +1,10 @@
 -- `hour_charge::charge_listed` meets its contract. Assumes nothing.
-use mathlib.Core.Path.{_≡_, refl, sym, ap, _∙_}
-use Prim.Native.Nat.{ℕ}
+use mathlib.Core.Path.{_≡_, sym, _∙_, subst}
 use borrow.Author.Needs.{needs}
-use Rattle.ints.specs.Table.{tab}
-use Rattle.hour.specs.InsideParts.{aheadWeight}
-use Rattle.hour.specs.Hour.{priceList}
+use Rattle.hour.specs.InsideParts.{weighed}
+use Rattle.hour_weights.specs.Inside.{Table}
+use Rattle.hour_weights.proofs.Weights.{table}
 use Rattle.hour_charge.proofs.Total.{charged}
-use Rattle.hour_weights.proofs.Weights.{tables}
 use Rattle.hour_charge.proofs.charge_listed.Statement.{statement}
 use Rattle.hour_charge.proofs.charge_listed.Tie as tie
 
@@ -17,15 +15,11 @@ module _ (w : tie.After-weigh2) where
   abbrev given : tie.Start
   given = first .before .before .before .before
 
-  congestion-is : first .weigh .last .1 .1 .0 ≡ tab (aheadWeight (priceList (given .args .header .locations) (given .args .congestion-ahead .now) (given .args .congestion-real .now))) (given .args .header .locations)
-  congestion-is =
-      first .weigh .ensures
-      ∙ ap (λ (n : ℕ). tab (aheadWeight (priceList n (given .args .congestion-ahead .now) (given .args .congestion-real .now))) n) (given .pre .1 .1 .0 .0)
+  congestion-is : first .weigh .last .0 ≡ weighed (given .args .header .locations) (given .args .congestion .now)
+  congestion-is = first .weigh .ensures
 
-  loss-is : w .weigh2 .last .1 .1 .0 ≡ tab (aheadWeight (priceList (given .args .header .locations) (given .args .loss-ahead .now) (given .args .loss-real .now))) (given .args .header .locations)
-  loss-is =
-      w .weigh2 .ensures
-      ∙ ap (λ (n : ℕ). tab (aheadWeight (priceList n (given .args .loss-ahead .now) (given .args .loss-real .now))) n) (given .pre .1 .1 .0 .1)
+  loss-is : w .weigh2 .last .0 ≡ weighed (given .args .header .locations) (given .args .loss .now)
+  loss-is = w .weigh2 .ensures
 
 weigh-requires : tie.Need-weigh-requires
 weigh-requires c κs = search needs
@@ -36,7 +30,8 @@ weigh-requires-2 c κs = search needs
 charge-both-requires : tie.Need-charge-both-requires
 charge-both-requires c κs = let w = c .before .before .before .before .before .before in
     let s = given w in
-    (s .pre .0, ((tables _ _ _ (s .pre .1 .0 .0) _ (congestion-is w), tables _ _ _ (s .pre .1 .0 .1) _ (loss-is w)), s .pre .1 .1 .1))
+    let n = s .args .header .locations in
+    (s .pre .0, ((subst (Table n) (sym (congestion-is w)) (table (s .pre .1 .0 .0)), subst (Table n) (sym (loss-is w)) (table (s .pre .1 .0 .1))), s .pre .1 .1))
 
 same-length : tie.Need-same-length
 same-length c = search needs
@@ -60,9 +55,9 @@ returns c = let b = c .before .before .before in
     let e = b .charge-both .ensures in (
       e .0,
       (
-        λ z. charged h _ _ _ _ (congestion-is w) refl _ _ (sym (e .0) ∙ z) (e .1 .0 z),
+        λ z. charged h _ _ (congestion-is w) _ _ (sym (e .0) ∙ z) (e .1 .0 z),
         (
-          λ z. charged h _ _ _ _ (loss-is w) refl _ _ (sym (e .0) ∙ z) (e .1 .1 .0 z),
+          λ z. charged h _ _ (loss-is w) _ _ (sym (e .0) ∙ z) (e .1 .1 .0 z),
           e .1 .1 .1,
         ),
       ),

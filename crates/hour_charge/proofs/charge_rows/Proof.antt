@@ -13,7 +13,9 @@ use Rattle.exercise.specs.File.{rowAt}
 use Rattle.hour.specs.InsideTested.{RowTested}
 use Rattle.hour.specs.declared.Row.{Row}
 use Rattle.exercise.proofs.Answers.{row-next, row-first, row-some}
-use Rattle.hour_totals.specs.Inside.{partIn, Totals}
+use Rattle.hour_totals.specs.Inside.{partIn}
+use Rattle.hour.proofs.Tested.{row-wider}
+use Rattle.hour_charge.specs.Inside.{Totals}
 use Rattle.hour.specs.InsideTotals.{sharesMost, rowsMost}
 use Rattle.hour.specs.Surplus.{shareKw}
 use Rattle.hour_charge.proofs.Decoded.{row-is, row-passed}
@@ -24,17 +26,17 @@ use Rattle.hour_charge.proofs.charge_rows.Tie as tie
 use Rattle.exercise.specs.Inside.{rowsInRefusal}
 
 -- totals to which the first i rows, and shares to which their kW, have been added
-abbrev Charging : List ℕ → ℕ → List ℤ → List ℤ → List ℤ → ℕ → List ℤ → Type 0
-Charging rows locations weights real before i totals = Adding (toOwner (λ r. r .participant) (partIn weights real locations)) (rowAt rows) 0 2400000000000000 before i totals
+abbrev Charging : List ℕ → ℕ → List ℤ → List ℤ → ℕ → List ℤ → Type 0
+Charging rows locations table before i totals = Adding (toOwner (λ r. r .participant) (partIn table locations)) (rowAt rows) 0 2400000000000000 before i totals
 
 abbrev Sharing : List ℕ → List ℤ → ℕ → List ℤ → Type 0
 Sharing rows before i shares = Adding (toOwner (λ r. r .participant) shareKw) (rowAt rows) 0 20000000 before i shares
 
 abbrev Inv-loop : tie.InvT-loop
-Inv-loop participants locations rows n congestion-weights congestion-real loss-weights loss-real exact-congestion₀ exact-loss₀ shares₀ i₀ exact-congestion exact-loss shares i = (i ≤ n) × (rowsInRefusal participants locations rows i ≡ 0) × Charging rows locations congestion-weights congestion-real exact-congestion₀ i exact-congestion × Charging rows locations loss-weights loss-real exact-loss₀ i exact-loss × Sharing rows shares₀ i shares
+Inv-loop participants locations rows n congestion loss exact-congestion₀ exact-loss₀ shares₀ i₀ exact-congestion exact-loss shares i = (i ≤ n) × (rowsInRefusal participants locations rows i ≡ 0) × Charging rows locations congestion exact-congestion₀ i exact-congestion × Charging rows locations loss exact-loss₀ i exact-loss × Sharing rows shares₀ i shares
 
 abbrev μ-loop : tie.MeasureT-loop
-μ-loop participants locations rows n congestion-weights congestion-real loss-weights loss-real exact-congestion₀ exact-loss₀ shares₀ i₀ exact-congestion exact-loss shares i = n - i
+μ-loop participants locations rows n congestion loss exact-congestion₀ exact-loss₀ shares₀ i₀ exact-congestion exact-loss shares i = n - i
 
 -- a row that was decoded in the loop
 module _ (d : tie.After-decoded Inv-loop μ-loop) where
@@ -51,25 +53,25 @@ module _ (d : tie.After-decoded Inv-loop μ-loop) where
   row = d .decoded .given .0 .0
 
   is : rowAt (given .args .rows .now) (head .loop .i) ≡ row
-  is = row-is _ _ (given .pre .0 .0) _ _ _ (at-row .row-at .ensures) row (d .decoded .given .1)
+  is = row-is _ _ _ _ _ (at-row .row-at .ensures) row (d .decoded .given .1)
 
-  tested : RowTested 64 (given .args .locations) row
-  tested = row-passed _ _ (given .pre .0 .0) _ _ _ (at-row .row-at .ensures) row (d .decoded .given .1)
+  tested : RowTested (given .args .participants) (given .args .locations) row
+  tested = row-passed _ _ _ _ _ (at-row .row-at .ensures) row (d .decoded .given .1)
 
   inside : head .loop .i < given .args .n
   inside = at-row .before .loop-test .taken
 
   few : head .loop .i ≤ 2048
-  few = omega (arith, given .pre .0 .1, inside)
+  few = omega (arith, given .pre .0 .0, inside)
 
-  congestion-now : Totals (head .loop .exact-congestion) rowsMost
-  congestion-now = record { long = head .loop .inv .2 .long ∙ given .pre .1 .1 .0 .long; range = adding-range _ _ _ _ (head .loop .inv .2) 2048 rowsMost few (lit≤ tt) }
+  congestion-now : Totals (given .args .participants) (head .loop .exact-congestion) rowsMost
+  congestion-now = record { long = omega (arith, head .loop .inv .2 .long, given .pre .1 .1 .0 .long); range = adding-range _ _ _ _ (head .loop .inv .2) 2048 rowsMost few (lit≤ tt) }
 
-  loss-now : Totals (head .loop .exact-loss) rowsMost
-  loss-now = record { long = head .loop .inv .3 .long ∙ given .pre .1 .1 .1 .long; range = adding-range _ _ _ _ (head .loop .inv .3) 2048 rowsMost few (lit≤ tt) }
+  loss-now : Totals (given .args .participants) (head .loop .exact-loss) rowsMost
+  loss-now = record { long = omega (arith, head .loop .inv .3 .long, given .pre .1 .1 .1 .long); range = adding-range _ _ _ _ (head .loop .inv .3) 2048 rowsMost few (lit≤ tt) }
 
-  shares-now : Totals (head .loop .shares) sharesMost
-  shares-now = record { long = head .loop .inv .4 .long ∙ given .pre .1 .1 .2 .long; range = adding-range _ _ _ _ (head .loop .inv .4) 2048 sharesMost few (lit≤ tt) }
+  shares-now : Totals (given .args .participants) (head .loop .shares) sharesMost
+  shares-now = record { long = omega (arith, head .loop .inv .4 .long, given .pre .1 .1 .2 .long); range = adding-range _ _ _ _ (head .loop .inv .4) 2048 sharesMost few (lit≤ tt) }
 
 loop-holds : tie.Need-loop-holds Inv-loop μ-loop
 loop-holds c = let s = c .before in
@@ -107,15 +109,15 @@ returns c = let a = c .before .before .before .before .before in
 
 add-row-requires : tie.Need-add-row-requires Inv-loop μ-loop
 add-row-requires c κs = let d = c .before .before in
-    (tested d, given d .pre .1 .0 .0, congestion-now d)
+    (row-wider (congestion-now d .long) (tested d), given d .pre .1 .0 .0, congestion-now d .range)
 
 add-row-requires-2 : tie.Need-add-row-requires-2 Inv-loop μ-loop
 add-row-requires-2 c κs = let d = c .before .before .before .before .before in
-    (tested d, given d .pre .1 .0 .1, loss-now d)
+    (row-wider (loss-now d .long) (tested d), given d .pre .1 .0 .1, loss-now d .range)
 
 add-share-requires : tie.Need-add-share-requires Inv-loop μ-loop
 add-share-requires c κs = let d = c .before .before .before .before .before .before .before .before in
-    (tested d .participant, tested d .kw, shares-now d)
+    (row-wider (shares-now d .long) (tested d) .participant, tested d .kw, shares-now d .range)
 
 add-i : tie.Need-add-i Inv-loop μ-loop
 add-i c = search needs
@@ -150,9 +152,9 @@ returns-2 c = let a = c .before in
     let e : a .loop .i ≡ s .args .n = omega arith in (
       sym (ap (rowsInRefusal (s .args .participants) (s .args .locations) (s .args .rows .now)) (sym e) ∙ a .loop .inv .1),
       (
-        λ _. (adding-done _ _ _ _ (a .loop .inv .2) _ e, adding-range _ _ _ _ (a .loop .inv .2) 2048 rowsMost (omega (arith, s .pre .0 .1)) (lit≤ tt)),
+        λ _. (adding-done _ _ _ _ (a .loop .inv .2) _ e, adding-range _ _ _ _ (a .loop .inv .2) 2048 rowsMost (omega (arith, s .pre .0 .0)) (lit≤ tt)),
         (
-          λ _. (adding-done _ _ _ _ (a .loop .inv .3) _ e, adding-range _ _ _ _ (a .loop .inv .3) 2048 rowsMost (omega (arith, s .pre .0 .1)) (lit≤ tt)),
+          λ _. (adding-done _ _ _ _ (a .loop .inv .3) _ e, adding-range _ _ _ _ (a .loop .inv .3) 2048 rowsMost (omega (arith, s .pre .0 .0)) (lit≤ tt)),
           λ _. adding-done _ _ _ _ (a .loop .inv .4) _ e,
         ),
       ),

@@ -19,9 +19,11 @@ use Rattle.exercise.proofs.Runs.{in-turn}
 use Rattle.hour.specs.declared.Edition.{Edition}
 use Rattle.hour.specs.InsideParts.{weightIn, addsTo}
 use Rattle.hour.proofs.Legs.{adds-within}
-use Rattle.hour_weights.specs.Inside.{Tables}
+use Rattle.hour_weights.specs.Inside.{Table}
 use Rattle.hour_weights.proofs.Weights.{weight-range}
-use Rattle.hour_totals.specs.Inside.{Totals, transactionAdded}
+use Rattle.hour_totals.specs.Inside.{transactionAdded}
+use Rattle.hour.proofs.Tested.{transaction-wider}
+use Rattle.hour_charge.specs.Inside.{Totals}
 use Rattle.hour_totals.proofs.Added.{length-added, added-at}
 use Rattle.hour.specs.InsideTotals.{rowsMost, hourMost}
 use Rattle.hour_charge.proofs.Decoded.{transaction-is, transaction-passed}
@@ -30,23 +32,23 @@ use Rattle.hour_charge.proofs.charge_transactions.Tie as tie
 use Rattle.exercise.specs.Inside.{transactionsInRefusal}
 
 -- totals to which the first i transactions have been added
-abbrev Charging : Edition → List ℕ → ℕ → List ℤ → List ℤ → List ℤ → ℕ → List ℤ → Type 0
-Charging edition transactions locations weights real before i totals = Adding (addsTo edition (weightIn weights real locations)) (transactionAt edition transactions) rowsMost 4800000000000000 before i totals
+abbrev Charging : Edition → List ℕ → ℕ → List ℤ → List ℤ → ℕ → List ℤ → Type 0
+Charging edition transactions locations table before i totals = Adding (addsTo edition (weightIn table locations)) (transactionAt edition transactions) rowsMost 4800000000000000 before i totals
 
 abbrev Inv-loop : tie.InvT-loop
-Inv-loop edition participants locations transactions n congestion-weights congestion-real loss-weights loss-real exact-congestion₀ exact-loss₀ i₀ exact-congestion exact-loss i = (i ≤ n) × (transactionsInRefusal edition participants locations transactions i ≡ 0) × Charging edition transactions locations congestion-weights congestion-real exact-congestion₀ i exact-congestion × Charging edition transactions locations loss-weights loss-real exact-loss₀ i exact-loss
+Inv-loop edition participants locations transactions n congestion loss exact-congestion₀ exact-loss₀ i₀ exact-congestion exact-loss i = (i ≤ n) × (transactionsInRefusal edition participants locations transactions i ≡ 0) × Charging edition transactions locations congestion exact-congestion₀ i exact-congestion × Charging edition transactions locations loss exact-loss₀ i exact-loss
 
 abbrev μ-loop : tie.MeasureT-loop
-μ-loop edition participants locations transactions n congestion-weights congestion-real loss-weights loss-real exact-congestion₀ exact-loss₀ i₀ exact-congestion exact-loss i = n - i
+μ-loop edition participants locations transactions n congestion loss exact-congestion₀ exact-loss₀ i₀ exact-congestion exact-loss i = n - i
 
 -- one transaction more, whatever its edition
-one-more : (edition : Edition) (transactions : List ℕ) (i : ℕ) {locations : ℕ} {weights real before totals after : List ℤ} {t : Transaction}
-    → TransactionTested 64 locations t → Tables locations weights real → Charging edition transactions locations weights real before i totals → transactionAt edition transactions i ≡ t
-    → length totals ≡ 64 → after ≡ transactionAdded edition (weightIn weights real locations) t totals → Charging edition transactions locations weights real before (i + 1) after
-one-more edition transactions i {locations = locations} {weights = weights} {real = real} {totals = totals} {t = t} q h a is long stored =
-    let counts = weightIn weights real locations in
+one-more : (edition : Edition) (transactions : List ℕ) (i : ℕ) {locations : ℕ} {table before totals after : List ℤ} {t : Transaction}
+    → TransactionTested (length totals) locations t → Table locations table → Charging edition transactions locations table before i totals → transactionAt edition transactions i ≡ t
+    → after ≡ transactionAdded edition (weightIn table locations) t totals → Charging edition transactions locations table before (i + 1) after
+one-more edition transactions i {locations = locations} {table = table} {totals = totals} {t = t} q h a is stored =
+    let counts = weightIn table locations in
     adding-next _ _ _ _ a t is
-    (λ p. ap (λ (xs : List ℤ). xs at p) stored ∙ added-at counts t totals (omega (arith, q .participant)) (omega (arith, q .seller)) p edition)
+    (λ p. ap (λ (xs : List ℤ). xs at p) stored ∙ added-at counts t totals (q .participant) (q .seller) p edition)
     (λ p. adds-within counts (weight-range h) edition t (q .kw) p)
     (ap length stored ∙ length-added counts t totals edition)
 
@@ -65,22 +67,22 @@ module _ (d : tie.After-decoded Inv-loop μ-loop) where
   transaction = d .decoded .given .0 .0
 
   is : transactionAt (given .args .edition) (given .args .transactions .now) (head .loop .i) ≡ transaction
-  is = transaction-is (given .args .edition) (given .args .participants) (given .args .locations) (given .pre .0 .0) (given .args .transactions .now) (head .loop .i) _ (at-transaction .transaction-at .ensures) transaction (d .decoded .given .1)
+  is = transaction-is (given .args .edition) (given .args .participants) (given .args .locations) (given .args .transactions .now) (head .loop .i) _ (at-transaction .transaction-at .ensures) transaction (d .decoded .given .1)
 
-  tested : TransactionTested 64 (given .args .locations) transaction
-  tested = transaction-passed (given .args .edition) (given .args .participants) (given .args .locations) (given .pre .0 .0) (given .args .transactions .now) (head .loop .i) _ (at-transaction .transaction-at .ensures) transaction (d .decoded .given .1)
+  tested : TransactionTested (given .args .participants) (given .args .locations) transaction
+  tested = transaction-passed (given .args .edition) (given .args .participants) (given .args .locations) (given .args .transactions .now) (head .loop .i) _ (at-transaction .transaction-at .ensures) transaction (d .decoded .given .1)
 
   inside : head .loop .i < given .args .n
   inside = at-transaction .before .loop-test .taken
 
   few : head .loop .i ≤ 256
-  few = omega (arith, given .pre .0 .1, inside)
+  few = omega (arith, given .pre .0 .0, inside)
 
-  congestion-now : Totals (head .loop .exact-congestion) hourMost
-  congestion-now = record { long = head .loop .inv .2 .long ∙ given .pre .1 .1 .0 .long; range = adding-range _ _ _ _ (head .loop .inv .2) 256 hourMost few (lit≤ tt) }
+  congestion-now : Totals (given .args .participants) (head .loop .exact-congestion) hourMost
+  congestion-now = record { long = omega (arith, head .loop .inv .2 .long, given .pre .1 .1 .0 .long); range = adding-range _ _ _ _ (head .loop .inv .2) 256 hourMost few (lit≤ tt) }
 
-  loss-now : Totals (head .loop .exact-loss) hourMost
-  loss-now = record { long = head .loop .inv .3 .long ∙ given .pre .1 .1 .1 .long; range = adding-range _ _ _ _ (head .loop .inv .3) 256 hourMost few (lit≤ tt) }
+  loss-now : Totals (given .args .participants) (head .loop .exact-loss) hourMost
+  loss-now = record { long = omega (arith, head .loop .inv .3 .long, given .pre .1 .1 .1 .long); range = adding-range _ _ _ _ (head .loop .inv .3) 256 hourMost few (lit≤ tt) }
 
 loop-holds : tie.Need-loop-holds Inv-loop μ-loop
 loop-holds c = let s = c .before in
@@ -89,7 +91,7 @@ loop-holds c = let s = c .before in
 transaction-at-requires : tie.Need-transaction-at-requires Inv-loop μ-loop
 transaction-at-requires c κs = let l = c .before in
     let s = l .before .before in
-    omega (arith, s .pre .0 .2, in-turn (transactionSize (s .args .edition)) (l .loop .i) (s .args .n) (c .loop-test .taken))
+    omega (arith, s .pre .0 .1, in-turn (transactionSize (s .args .edition)) (l .loop .i) (s .args .n) (c .loop-test .taken))
 
 enum-known-decoded : tie.Need-enum-known-decoded Inv-loop μ-loop
 enum-known-decoded c = search needs
@@ -118,11 +120,11 @@ returns c = let a = c .before .before .before .before .before in
 
 add-transaction-requires : tie.Need-add-transaction-requires Inv-loop μ-loop
 add-transaction-requires c κs = let d = c .before .before in
-    (tested d, given d .pre .1 .0 .0, congestion-now d)
+    (transaction-wider (congestion-now d .long) (tested d), given d .pre .1 .0 .0, congestion-now d .range)
 
 add-transaction-requires-2 : tie.Need-add-transaction-requires-2 Inv-loop μ-loop
 add-transaction-requires-2 c κs = let d = c .before .before .before .before .before in
-    (tested d, given d .pre .1 .0 .1, loss-now d)
+    (transaction-wider (loss-now d .long) (tested d), given d .pre .1 .0 .1, loss-now d .range)
 
 add-i : tie.Need-add-i Inv-loop μ-loop
 add-i c = search needs
@@ -136,8 +138,8 @@ loop-again c = let congestion-node = c .before .before .before .before in
     let s = given d in (
       omega (arith, inside d),
       transaction-next (s .args .edition) (s .args .participants) (s .args .locations) (s .args .transactions .now) (head d .loop .i) _ (at-transaction d .transaction-at .ensures) (head d .loop .inv .1) _ (d .decoded .given .1),
-      one-more (s .args .edition) (s .args .transactions .now) (head d .loop .i) (tested d) (s .pre .1 .0 .0) (head d .loop .inv .2) (is d) (congestion-now d .long) (congestion-node .add-transaction .ensures),
-      one-more (s .args .edition) (s .args .transactions .now) (head d .loop .i) (tested d) (s .pre .1 .0 .1) (head d .loop .inv .3) (is d) (loss-now d .long) (c .before .add-transaction2 .ensures),
+      one-more (s .args .edition) (s .args .transactions .now) (head d .loop .i) (transaction-wider (congestion-now d .long) (tested d)) (s .pre .1 .0 .0) (head d .loop .inv .2) (is d) (congestion-node .add-transaction .ensures),
+      one-more (s .args .edition) (s .args .transactions .now) (head d .loop .i) (transaction-wider (loss-now d .long) (tested d)) (s .pre .1 .0 .1) (head d .loop .inv .3) (is d) (c .before .add-transaction2 .ensures),
     )
 
 same-length-3 : tie.Need-same-length-3 Inv-loop μ-loop

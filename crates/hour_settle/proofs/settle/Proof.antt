@@ -62,7 +62,7 @@ returns-5 c = let h = c .before .before .before .before in
 
 settle-whole-requires : tie.Need-settle-whole-requires
 settle-whole-requires c κs = let a = c .before .before .before .before in
-    (passes (head a), all-long a)
+    (passes (head a), (all-long a, start (head a) .pre))
 
 same-length : tie.Need-same-length
 same-length c = search needs

@@ -1,47 +1,35 @@
 -- `hour_settle::settle_whole` meets its contract. Assumes nothing.
-use mathlib.Core.Path.{_≡_, refl, sym, ap, _∙_, subst}
+use mathlib.Core.Path.{_≡_, refl, sym, ap₂, _∙_, subst}
 use mathlib.Core.List.{List}
-use Prim.Native.Nat.{ℕ, _≤_}
+use Prim.Native.Nat.{ℕ}
 use native.Mathlib.Omega.{arith}
-use lib.IntN.{ℤ, pos}
-use lib.ListN.{length, take, replicate}
-use lib.Seq.{length-take-le}
+use lib.IntN.{ℤ}
+use lib.ListN.{length}
 use borrow.Author.Needs.{needs}
+use Rattle.ints.specs.InsideRange.{InRange}
 use Rattle.ints.specs.Refusal.{lent}
-use Rattle.ints.proofs.Ranges.{zeros-range}
 use Rattle.ints.proofs.Refusals.{lent-result, lent-before}
 use Rattle.ints.proofs.Turns.{then-ends, then-follows}
 use Rattle.exercise.specs.File.{hourOf}
 use Rattle.exercise.proofs.Whole.{small, some-participant}
-use Rattle.hour.specs.InsideTotals.{Natural}
-use Rattle.hour_totals.specs.Inside.{Totals}
+use Rattle.hour.specs.InsideTotals.{Natural, rounded}
+use Rattle.hour.specs.Charges.{congestionCharges, lossCharges}
+use Rattle.hour.specs.Hour.{Hour}
 use Rattle.hour.specs.Surplus.{shares}
 use Rattle.hour.proofs.Billed.{congestion-charges, loss-charges, the-shares, shares-natural, the-refusal, the-credits, net-lists}
+use Rattle.hour_charge.specs.Inside.{Totals}
+use Rattle.hour_charge.proofs.Added.{as-they-were}
+use Rattle.hour_settle.specs.Inside.{zeros}
 use Rattle.hour_settle.proofs.settle_whole.Statement.{statement}
 use Rattle.hour_settle.proofs.settle_whole.Tie as tie
 
--- totals as they are made
-nothing : Totals (replicate 64 (pos 0)) 0
-nothing = record { long = refl; range = zeros-range 64 0 }
+-- a list of zeros for each participant
+totals : {n : ℕ} {list : List ℤ} → length list ≡ n → InRange list 0 → Totals n list 0
+totals e r = record { long = omega (arith, e); range = r }
 
-module _ (f : tie.After-charge-hour) where
-  abbrev given : tie.Start
-  given = f .before .before .before .before .before
-
-  abbrev count : ℕ
-  count = length (given .args .congestion .now)
-
-  few : count ≤ 64
-  few = omega (arith, given .pre .1 .congestion-each, small (given .args .file .now) .participants)
-
-  congestion-room : count ≤ length (f .charge-hour .last .1 .0)
-  congestion-room = omega (arith, few, f .charge-hour .kept .1 .0)
-
-  loss-room : count ≤ length (f .charge-hour .last .1 .1 .0)
-  loss-room = omega (arith, few, f .charge-hour .kept .1 .1 .0)
-
-  shares-room : count ≤ length (f .charge-hour .last .1 .1 .1 .0)
-  shares-room = omega (arith, few, f .charge-hour .kept .1 .1 .1 .0)
+-- the list as it is made, or as it was
+outcome : (r : ℕ) {result own before : List ℤ} {n : ℕ} → result ≡ own → InRange before 0 → n ≡ length before → lent r result (zeros n) ≡ lent r own before
+outcome r e z l = ap₂ (lent r) e (as-they-were z l refl)
 
 -- where the file was charged: what is handed on is what the file's lists are made of
 module _ (l : tie.Else1) where
@@ -49,62 +37,23 @@ module _ (l : tie.Else1) where
   charged = l .before .before .before .before
 
   abbrev start : tie.Start
-  start = given charged
+  start = charged .before .before .before .before .before
 
-  shared : take (count charged) (charged .charge-hour .last .1 .1 .1 .0) ≡ shares (hourOf (start .args .file .now))
-  shared = the-shares (hourOf (start .args .file .now)) (count charged) (start .pre .1 .congestion-each) (few charged) (charged .charge-hour .ensures .1 .1 .1 ∙ lent-result _ _ _ (l .if1 .left))
+  abbrev hour : Hour
+  hour = hourOf (start .args .file .now)
 
-slice-aggregate-charge-hour : tie.Need-slice-aggregate-charge-hour
-slice-aggregate-charge-hour c = search needs
+  congestion-made : rounded (charged .charge-hour .last .1 .0) ≡ congestionCharges hour
+  congestion-made = congestion-charges hour (start .pre .1 .0 .congestion-each) (charged .charge-hour .ensures .1 .0 ∙ lent-result _ _ _ (l .if1 .left))
 
-slice-aggregate-charge-hour-2 : tie.Need-slice-aggregate-charge-hour-2
-slice-aggregate-charge-hour-2 c = search needs
+  loss-made : rounded (charged .charge-hour .last .1 .1 .0) ≡ lossCharges hour
+  loss-made = loss-charges hour (start .pre .1 .0 .loss-each) (charged .charge-hour .ensures .1 .1 .0 ∙ lent-result _ _ _ (l .if1 .left))
 
-slice-aggregate-charge-hour-3 : tie.Need-slice-aggregate-charge-hour-3
-slice-aggregate-charge-hour-3 c = search needs
+  shared : charged .charge-hour .last .1 .1 .1 .0 ≡ shares hour
+  shared = the-shares hour (start .pre .1 .0 .credit-each) (charged .charge-hour .ensures .1 .1 .1 ∙ lent-result _ _ _ (l .if1 .left))
 
 charge-hour-requires : tie.Need-charge-hour-requires
-charge-hour-requires c κs = let s = c .before .before .before .before in
-    (s .pre .0, (nothing, nothing, nothing))
-
-returns : tie.Need-returns
-returns c = let f = c .before .before .before .before in
-    (then-ends _ _ _ (c .if1 .taken) (f .charge-hour .ensures .0), (lent-before _ _ _ (c .if1 .taken), (lent-before _ _ _ (c .if1 .taken), (lent-before _ _ _ (c .if1 .taken), lent-before _ _ _ (c .if1 .taken)))))
-
-array-borrow-prefix-exact-congestion : tie.Need-array-borrow-prefix-exact-congestion
-array-borrow-prefix-exact-congestion c = congestion-room (c .before .before .before .before)
-
-slice-aggregate-round-and-bill : tie.Need-slice-aggregate-round-and-bill
-slice-aggregate-round-and-bill c = let f = c .before .before .before .before .before in sym (length-take-le (count f) _ (congestion-room f))
-
-array-borrow-prefix-exact-loss : tie.Need-array-borrow-prefix-exact-loss
-array-borrow-prefix-exact-loss c = loss-room (c .before .before .before .before .before)
-
-slice-aggregate-round-and-bill-2 : tie.Need-slice-aggregate-round-and-bill-2
-slice-aggregate-round-and-bill-2 c = let f = c .before .before .before .before .before .before in sym (length-take-le (count f) _ (loss-room f))
-
-array-share-prefix-shares : tie.Need-array-share-prefix-shares
-array-share-prefix-shares c = shares-room (c .before .before .before .before .before .before)
-
-slice-aggregate-round-and-bill-3 : tie.Need-slice-aggregate-round-and-bill-3
-slice-aggregate-round-and-bill-3 c = let f = c .before .before .before .before .before .before .before in sym (length-take-le (count f) _ (shares-room f))
-
-round-and-bill-requires : tie.Need-round-and-bill-requires
-round-and-bill-requires c κs = let l = c .before .before .before .before .before .before .before in
-    let f = charged l in
-    let o = start l .pre .1 in
-    let n = length-take-le (count f) (f .charge-hour .last .1 .1 .1 .0) (shares-room f) in
-    record {
-      some = omega (arith, n, o .congestion-each, some-participant (start l .args .file .now));
-      few = omega (arith, n, few f);
-      exact-congestion-each = length-take-le (count f) _ (congestion-room f) ∙ sym n;
-      exact-loss-each = length-take-le (count f) _ (loss-room f) ∙ sym n;
-      congestion-each = sym n;
-      loss-each = o .loss-each ∙ sym (o .congestion-each) ∙ sym n;
-      credit-each = o .credit-each ∙ sym (o .congestion-each) ∙ sym n;
-      net-each = o .net-each ∙ sym (o .congestion-each) ∙ sym n;
-      natural = subst Natural (sym (shared l)) (shares-natural (hourOf (start l .args .file .now)));
-    }
+charge-hour-requires c κs = let s = c .before .before .before .before in let o = s .pre .1 .0 in let z = s .pre .1 .1 in
+    (s .pre .0, (totals (o .congestion-each) (z .congestion-empty), totals (o .loss-each) (z .loss-empty), totals (o .credit-each) (z .credit-empty)))
 
 same-length : tie.Need-same-length
 same-length c = search needs
@@ -115,28 +64,52 @@ same-length-2 c = search needs
 same-length-3 : tie.Need-same-length-3
 same-length-3 c = search needs
 
+returns : tie.Need-returns
+returns c = let e = c .before .before .before .before .charge-hour .ensures in
+    (then-ends _ _ _ (c .if1 .taken) (e .0), (e .1 .0 ∙ sym (lent-before _ _ _ (c .if1 .taken)) ∙ lent-before _ _ _ (c .if1 .taken), (e .1 .1 .0 ∙ sym (lent-before _ _ _ (c .if1 .taken)) ∙ lent-before _ _ _ (c .if1 .taken), (e .1 .1 .1 ∙ sym (lent-before _ _ _ (c .if1 .taken)) ∙ lent-before _ _ _ (c .if1 .taken), lent-before _ _ _ (c .if1 .taken)))))
+
+round-and-bill-requires : tie.Need-round-and-bill-requires
+round-and-bill-requires c κs = let l = c .before .before .before .before in
+    let s = start l in
+    let o = s .pre .1 .0 in
+    let k = charged l .charge-hour .kept .1 in
+    let n = k .1 .1 .0 ∙ o .credit-each in
+    record {
+      some = omega (arith, n, some-participant (s .args .file .now));
+      few = omega (arith, n, small (s .args .file .now) .participants);
+      congestion-each = k .0 ∙ o .congestion-each ∙ sym n;
+      loss-each = k .1 .0 ∙ o .loss-each ∙ sym n;
+      net-each = o .net-each ∙ sym n;
+      natural = subst Natural (sym (shared l)) (shares-natural (hour l));
+    }
+
 same-length-4 : tie.Need-same-length-4
 same-length-4 c = search needs
 
+same-length-5 : tie.Need-same-length-5
+same-length-5 c = search needs
+
+same-length-6 : tie.Need-same-length-6
+same-length-6 c = search needs
+
+same-length-7 : tie.Need-same-length-7
+same-length-7 c = search needs
+
 returns-2 : tie.Need-returns-2
-returns-2 c = let p = c .before .before .before .before .before .before in
-    let l = p .before .before .before .before .before .before .before .before in
-    let f = charged l in
-    let s = start l in
-    let hour = hourOf (s .args .file .now) in
-    let is = s .pre .1 .congestion-each in
-    let e = p .round-and-bill .ensures in
-    let c1 = congestion-charges hour (count f) is (few f) (f .charge-hour .ensures .1 .0 ∙ lent-result _ _ _ (l .if1 .left)) in
-    let l1 = loss-charges hour (count f) is (few f) (f .charge-hour .ensures .1 .1 .0 ∙ lent-result _ _ _ (l .if1 .left)) in
-    let s1 = shared l in (
-      e .0 ∙ the-refusal hour _ _ l1 s1 ∙ then-follows _ _ _ (l .if1 .left) (f .charge-hour .ensures .0),
+returns-2 c = let p = c .before .before .before .before in
+    let l = p .before .before .before .before .before in
+    let z = start l .pre .1 .1 in
+    let k = charged l .charge-hour .kept .1 in
+    let r = p .round-and-bill .result in
+    let e = p .round-and-bill .ensures in (
+      e .0 ∙ the-refusal (hour l) _ _ (loss-made l) (shared l) ∙ then-follows _ _ _ (l .if1 .left) (charged l .charge-hour .ensures .0),
       (
-        e .1 .0 ∙ ap (λ (xs : List ℤ). lent (p .round-and-bill .result) xs (s .args .congestion .now)) c1,
+        e .1 .0 ∙ outcome r (congestion-made l) (z .congestion-empty) (k .0),
         (
-          e .1 .1 .0 ∙ ap (λ (xs : List ℤ). lent (p .round-and-bill .result) xs (s .args .loss .now)) l1,
+          e .1 .1 .0 ∙ outcome r (loss-made l) (z .loss-empty) (k .1 .0),
           (
-            e .1 .1 .1 .0 ∙ ap (λ (xs : List ℤ). lent (p .round-and-bill .result) xs (s .args .credit .now)) (the-credits hour _ _ l1 s1),
-            e .1 .1 .1 .1 ∙ ap (λ (xs : List ℤ). lent (p .round-and-bill .result) xs (s .args .net .now)) (net-lists hour _ _ l1 s1 _ c1),
+            e .1 .1 .1 .0 ∙ outcome r (the-credits (hour l) _ _ (loss-made l) (shared l)) (z .credit-empty) (k .1 .1 .0),
+            e .1 .1 .1 .1 ∙ ap₂ (lent r) (net-lists (hour l) _ _ (loss-made l) (shared l) _ (congestion-made l)) refl,
           ),
         ),
       ),
@@ -146,20 +119,14 @@ pub settle-whole-spec : {M : Type 1} → statement M
 settle-whole-spec =
     tie.close
     (tie.spec
-    slice-aggregate-charge-hour
-    slice-aggregate-charge-hour-2
-    slice-aggregate-charge-hour-3
     charge-hour-requires
-    returns
-    array-borrow-prefix-exact-congestion
-    slice-aggregate-round-and-bill
-    array-borrow-prefix-exact-loss
-    slice-aggregate-round-and-bill-2
-    array-share-prefix-shares
-    slice-aggregate-round-and-bill-3
-    round-and-bill-requires
     same-length
     same-length-2
     same-length-3
+    returns
+    round-and-bill-requires
     same-length-4
+    same-length-5
+    same-length-6
+    same-length-7
     returns-2)

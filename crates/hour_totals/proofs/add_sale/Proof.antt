@@ -15,7 +15,6 @@ use Rattle.ints.specs.InsideRange.{Within, InRange}
 use Rattle.ints.proofs.Sizes.{w-add, w-neg, w-up, w-fits}
 use Rattle.hour.specs.declared.Edition.the-variants as Edition
 use Rattle.hour.specs.InsideParts.{weightIn, buyerPart, sellerPart}
-use Rattle.hour.proofs.Tested.{interval-below}
 use Rattle.hour_weights.proofs.Weights.{weight-range}
 use Rattle.hour_totals.proofs.Added.{length-plus, plus-range}
 use Rattle.hour_totals.proofs.Sizes.{sale-range}
@@ -26,17 +25,17 @@ use Rattle.hour_totals.proofs.add_sale.Tie as tie
 -- what is added for the seller, and taken back for the participant
 module _ (c : tie.After-charge-of) where
   abbrev start : tie.Start
-  start = c .before .before
+  start = c .before .before .before
 
   abbrev counts : ℕ → ℕ → ℕ → ℤ
-  counts = weightIn (now (start .args .weights)) (now (start .args .real)) (start .args .locations)
+  counts = weightIn (now (start .args .table)) (start .args .locations)
 
   abbrev seller-part : ℤ
   seller-part = sellerPart Edition.WithSeller counts (start .args .transaction)
 
   own : c .charge-of .result .0 ≡ seller-part
   unfolding sellerPart
-  own = c .charge-of .ensures ∙ ap (λ (z : ℤ). pos (start .args .transaction .kw .0) *ℤ z) (c .before .weight-of .ensures)
+  own = c .charge-of .ensures ∙ ap₂ _*ℤ_ (c .before .withdrawn .ensures) (c .before .before .weight-of .ensures)
 
   range : Within seller-part 2400000000000000
   range = sale-range (start .pre .1) (start .pre .0)
@@ -58,21 +57,27 @@ module _ (c : tie.After-add-amount) where
       ∙ ap (λ (z : ℤ). plus (now (begun .args .totals)) (begun .args .transaction .participant) z) (c .before .reimbursed .ensures ∙ ap negℤ (own charged))
 
   there : begun .args .transaction .participant < length (now (begun .args .totals))
-  there = omega (arith, begun .pre .0 .participant, begun .pre .2 .long)
+  there = begun .pre .0 .participant
 
   there-too : begun .args .transaction .seller < length paid
-  there-too = omega (arith, begun .pre .0 .seller, begun .pre .2 .long, length-plus (now (begun .args .totals)) (begun .args .transaction .participant) (negℤ (seller-part charged)))
+  there-too = omega (arith, begun .pre .0 .seller, length-plus (now (begun .args .totals)) (begun .args .transaction .participant) (negℤ (seller-part charged)))
 
   in-range : InRange paid 6146400000000000000
-  in-range = plus-range (begun .args .transaction .participant) (begun .pre .2 .range) there (w-neg (range charged))
+  in-range = plus-range (begun .args .transaction .participant) (begun .pre .2) there (w-neg (range charged))
 
 weight-of-requires : tie.Need-weight-of-requires
-weight-of-requires c κs = (interval-below (c .pre .0 .timed), c .pre .0 .source, c .pre .1)
+weight-of-requires c κs = (c .pre .0 .timed, c .pre .0 .source, c .pre .1)
+
+withdrawn-requires : tie.Need-withdrawn-requires
+withdrawn-requires c κs = search needs
 
 charge-of-requires : tie.Need-charge-of-requires
-charge-of-requires c κs = let s = c .before in
+charge-of-requires c κs = let s = c .before .before in
     let t = s .args .transaction in
-    (s .pre .0 .kw, w-up (subst (λ (z : ℤ). Within z 120000000) (sym (c .weight-of .ensures)) (weight-range (s .pre .1) (t .market) (t .interval) (t .source))) (lit≤ tt))
+    let kw : Within (pos (t .kw .0)) 20000000 = record { within = s .pre .0 .kw } in (
+      subst (λ (z : ℤ). Within z 20000000) (sym (c .withdrawn .ensures)) kw,
+      w-up (subst (λ (z : ℤ). Within z 120000000) (sym (c .before .weight-of .ensures)) (weight-range (s .pre .1) (t .market) (t .interval) (t .source))) (lit≤ tt),
+    )
 
 cast-add-amount : tie.Need-cast-add-amount
 cast-add-amount c = search needs
@@ -83,8 +88,8 @@ reimbursed-requires c κs = subst (λ (z : ℤ). Within z 4800000000000000) (sym
 add-amount-requires : tie.Need-add-amount-requires
 add-amount-requires c κs = let k = c .before .before .before in
     let s = start k in (
-      omega (arith, s .pre .0 .participant, s .pre .2 .long),
-      rw (c .reimbursed .ensures ∙ ap negℤ (own k)) (w-fits (w-add (s .pre .2 .range .each (s .args .transaction .participant)) (w-neg (range k))) tt),
+      s .pre .0 .participant,
+      rw (c .reimbursed .ensures ∙ ap negℤ (own k)) (w-fits (w-add (s .pre .2 .each (s .args .transaction .participant)) (w-neg (range k))) tt),
     )
 
 cast-add-amount-2 : tie.Need-cast-add-amount-2
@@ -111,6 +116,7 @@ add-sale-spec =
     tie.close
     (tie.spec
     weight-of-requires
+    withdrawn-requires
     charge-of-requires
     cast-add-amount
     reimbursed-requires

@@ -1,6 +1,5 @@
 -- `hour_totals::add_share` meets its contract. Assumes nothing.
 use mathlib.Core.Path.{ap, _∙_}
-use native.Mathlib.Omega.{arith}
 use lib.IntN.{ℤ, _+ℤ_}
 use lib.ListN.{set}
 use borrow.Author.Needs.{needs}
@@ -18,7 +17,7 @@ share-kw-requires c κs = search needs
 
 add-kw-requires : tie.Need-add-kw-requires
 add-kw-requires c κs = let s = c .before .before .before in
-    (omega (arith, s .pre .0, s .pre .2 .long), rw (c .share-kw .ensures) (w-fits (w-add (s .pre .2 .range .each (s .args .row .participant)) (share-range (s .args .row) (s .pre .1))) tt))
+    (s .pre .0, rw (c .share-kw .ensures) (w-fits (w-add (s .pre .2 .each (s .args .row .participant)) (share-range (s .args .row) (s .pre .1))) tt))
 
 same-length : tie.Need-same-length
 same-length c = search needs

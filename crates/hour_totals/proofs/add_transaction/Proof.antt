@@ -1,3 +1,4 @@
+-- `hour_totals::add_transaction` meets its contract. Assumes nothing.
 use denote.Ref.{now}
 use Rattle.hour_totals.specs.Inside.{transactionAdded}
 use Rattle.hour.specs.InsideParts.{weightIn}
@@ -7,39 +8,31 @@ use borrow.Author.Needs.{needs}
 use Rattle.hour_totals.proofs.add_transaction.Statement.{statement}
 use Rattle.hour_totals.proofs.add_transaction.Tie as tie
 
--- src/lib.rt:151:78
 enum-told : tie.Need-enum-told
 enum-told c = search needs
 
--- src/lib.rt:151:30
 add-path-requires : tie.Need-add-path-requires
 add-path-requires c κs = search needs
 
--- src/lib.rt:152:80
 enum-told-2 : tie.Need-enum-told-2
 enum-told-2 c = search needs
 
--- src/lib.rt:152:32
 add-sale-requires : tie.Need-add-sale-requires
 add-sale-requires c κs = search needs
 
--- src/lib.rt:139:1
 same-length : tie.Need-same-length
 same-length c = search needs
 
--- src/lib.rt:139:1
 returns : tie.Need-returns
 returns c = let a = c .before .before .before .before .before .args in
-    c .before .add-path .ensures ∙ sym (ap (λ (edition : Edition). transactionAdded edition (weightIn (now (a .weights)) (now (a .real)) (a .locations)) (a .transaction) (now (a .totals))) (c .before .before .before .enum-told .given .1))
+    c .before .add-path .ensures ∙ sym (ap (λ (edition : Edition). transactionAdded edition (weightIn (now (a .table)) (a .locations)) (a .transaction) (now (a .totals))) (c .before .before .before .enum-told .given .1))
 
--- src/lib.rt:139:1
 same-length-2 : tie.Need-same-length-2
 same-length-2 c = search needs
 
--- src/lib.rt:139:1
 returns-2 : tie.Need-returns-2
 returns-2 c = let a = c .before .before .before .before .before .args in
-    c .before .add-sale .ensures ∙ sym (ap (λ (edition : Edition). transactionAdded edition (weightIn (now (a .weights)) (now (a .real)) (a .locations)) (a .transaction) (now (a .totals))) (c .before .before .before .enum-told2 .given .1))
+    c .before .add-sale .ensures ∙ sym (ap (λ (edition : Edition). transactionAdded edition (weightIn (now (a .table)) (a .locations)) (a .transaction) (now (a .totals))) (c .before .before .before .enum-told2 .given .1))
 
 pub add-transaction-spec : {M : Type 1} → statement M
 add-transaction-spec =

@@ -1,39 +1,45 @@
 -- `hour_weights::weight_of` meets its contract. Assumes nothing.
-use mathlib.Core.Path.{_≡_, ap, _∙_}
+use mathlib.Core.Path.{_≡_, sym, ap, _∙_, subst}
 use mathlib.Core.List.{List}
+use Prim.Native.Nat.{_+_}
 use native.Mathlib.Omega.{arith}
 use lib.IntN.{ℤ}
-use lib.ListN.{length, length-take, length-drop}
+use lib.ListN.{length}
 use borrow.Author.Needs.{needs}
-use borrow.Author.Tests.{eq-eqb, ne-eqb}
+use Rattle.ints.specs.InsideRange.{Within}
 use Rattle.ints.specs.Table.{_at_}
-use Rattle.ints.proofs.Ranges.{room}
-use Rattle.hour.specs.Hour.{intervalOf}
+use Rattle.hour.proofs.Tested.{stage-below}
+use Rattle.hour.specs.InsideParts.{weightIn}
+use Rattle.hour_weights.proofs.Weights.{stage-length, stage-at, weight-range}
 use Rattle.hour_weights.proofs.weight_of.Statement.{statement}
 use Rattle.hour_weights.proofs.weight_of.Tie as tie
 
-stretch-length : (s : tie.Start) → length (intervalOf (s .args .real .now) (s .args .locations) (s .args .interval)) ≡ s .args .locations
-stretch-length s = simp (length-take, length-drop) (omega (arith, room (s .args .interval) 12 (s .args .locations) (s .pre .0), s .pre .2 .real-length))
+-- the weight, in its stage's stretch
+module _ (p : tie.After-stage-prices) where
+  abbrev s : tie.Start
+  s = p .before
+
+  abbrev stretch : List ℤ
+  stretch = p .stage-prices .result .now
+
+  long : length stretch ≡ s .args .locations
+  long = ap length (p .stage-prices .ensures .0) ∙ stage-length (s .args .locations) (s .args .table .now) (s .args .market + s .args .interval) (stage-below (s .pre .0)) (s .pre .2 .long)
+
+  weight : stretch at s .args .location ≡ weightIn (s .args .table .now) (s .args .locations) (s .args .market) (s .args .interval) (s .args .location)
+  weight = ap (λ (xs : List ℤ). xs at s .args .location) (p .stage-prices .ensures .0) ∙ stage-at (s .args .locations) (s .args .table .now) (s .args .market + s .args .interval) (s .args .location) (s .pre .1)
+
+add-stage : tie.Need-add-stage
+add-stage c = search needs
+
+stage-prices-requires : tie.Need-stage-prices-requires
+stage-prices-requires c κs = (stage-below (c .pre .0), omega (arith, c .pre .2 .long))
 
 mills-at-requires : tie.Need-mills-at-requires
-mills-at-requires c κs = search needs
+mills-at-requires c κs = let a = s c in
+    (omega (arith, long c, a .pre .1), subst (λ (z : ℤ). Within z 120000000) (sym (weight c)) (weight-range (a .pre .2) (a .args .market) (a .args .interval) (a .args .location)))
 
 returns : tie.Need-returns
-returns c = simp (eq-eqb _ _ (c .before .if1 .taken)) (c .mills-at .ensures)
-
-interval-prices-requires : tie.Need-interval-prices-requires
-interval-prices-requires c κs = search needs
-
-mills-at-requires-2 : tie.Need-mills-at-requires-2
-mills-at-requires-2 c κs = let s = c .before .before in
-    omega (arith, s .pre .1, ap length (c .interval-prices .ensures .0) ∙ stretch-length s)
-
-returns-2 : tie.Need-returns-2
-returns-2 c = let i = c .before in
-    simp (ne-eqb _ _ (i .before .if1 .left))
-    (c .mills-at2 .ensures ∙ ap (λ (xs : List ℤ). xs at i .before .before .args .location) (i .interval-prices .ensures .0))
+returns c = c .mills-at .ensures ∙ weight (c .before)
 
 pub weight-of-spec : {M : Type 1} → statement M
-weight-of-spec =
-    tie.close
-    (tie.spec mills-at-requires returns interval-prices-requires mills-at-requires-2 returns-2)
+weight-of-spec = tie.close (tie.spec add-stage stage-prices-requires mills-at-requires returns)

@@ -1,7 +1,7 @@
 -- `load_assign::assign` meets its contract. Assumes nothing.
 use mathlib.Core.Path.{_≡_, refl, sym, ap, ap₂, _∙_, subst}
 use mathlib.Core.List.{List, _++_}
-use Prim.Native.Nat.{ℕ, _≤_, _<_}
+use Prim.Native.Nat.{ℕ, _<_}
 use native.Mathlib.Omega.{arith}
 use lib.IntN.{ℤ, pos, natAbs, _+ℤ_, _-ℤ_}
 use lib.ListN.{length, drop, replicate, length-append, List·getD-append}
@@ -9,7 +9,7 @@ use mir.Syntax.{w64}
 use mir.Val.{toZ, ofZ}
 use mir.Facts.{toZ-ofZ}
 use borrow.Author.Needs.{needs}
-use Rattle.ints.specs.Table.{_at_, tab}
+use Rattle.ints.specs.Table.{_at_}
 use Rattle.ints.specs.Turn.{_then_}
 use Rattle.ints.proofs.Refusals.{lent-result, kept, done}
 use Rattle.ints.proofs.Turns.{then-later, then-earlier}
@@ -18,7 +18,7 @@ use Rattle.load.specs.Load.{identity, LoadGiven, loadGiven, buses, contractLoad
 use Rattle.load.specs.Order.{metersRefusal, contractsRefusal, listsRefusal, loadRefusal}
 use Rattle.load.proofs.Accepted.{Tested, tested, naturals-of}
 use Rattle.load.proofs.Assigned.{length-bus-loads, bus-load-ranged, cover-ext, assignment-is}
-use Rattle.load.proofs.Tables.{zero-cells, added-zeros}
+use Rattle.load.proofs.Tables.{added-zeros, cleared}
 use Rattle.load_assign.proofs.assign.Statement.{statement}
 use Rattle.load_assign.proofs.assign.Tie as tie
 
@@ -132,15 +132,12 @@ module _ (h : tie.After-hand-out) where
   module _ (e : h .hand-out .result ≡ 0) where
     cells : (p b : ℕ) → p < 64 → b < buses (d s2) → cell (buses (d s2)) table p b ≡ assigned (d s2) p b
     cells p b u l =
-        added-zeros 4096 (h .hand-out .ensures .1 e) p b u l
+        added-zeros (length (s2 .args .out .now)) (s2 .pre) (h .hand-out .ensures .1 e) p b u l
         ∙ ap₂ (λ (q : ℕ) (z : ℤ). contractLoad (buses (d s2)) (s2 .args .area-parts .now) (s2 .args .contracts .now) p b +ℤ auctioned q (s2 .args .tranches .now) (z -ℤ contracted (buses (d s2)) (s2 .args .area-parts .now) (s2 .args .contracts .now) b) p)
         (named (h .before .before)) (served-at (b2 (e2 h)) (e2 h .if2 .left) b l)
 
-    long : length (s2 .args .out .now) ≤ length table
-    long = omega (arith, h .hand-out .ensures .1 e .same, facts (e1 (b2 (e2 h))) .lengths-pass .result-long, facts (e1 (b2 (e2 h))) .counts-pass .few)
-
-    result : tab (λ k. table at k) (length (s2 .args .out .now)) ≡ assignment (d s2)
-    result = ap (tab (λ k. table at k)) (facts (e1 (b2 (e2 h))) .lengths-pass .result-long) ∙ assignment-is (d s2) table (facts (e1 (b2 (e2 h))) .counts-pass .some) cells
+    result : table ≡ assignment (d s2)
+    result = let f = facts (e1 (b2 (e2 h))) in assignment-is (d s2) table (f .counts-pass .some) (h .hand-out .ensures .1 e .same ∙ f .lengths-pass .result-long) cells
 
 lists-refusal-requires : tie.Need-lists-refusal-requires
 lists-refusal-requires c κs = search needs
@@ -163,30 +160,29 @@ slice-aggregate-hand-out c = search needs
 size-requires : tie.Need-size-requires
 size-requires c κs = search needs
 
-slice-aggregate-hand-out-2 : tie.Need-slice-aggregate-hand-out-2
-slice-aggregate-hand-out-2 c = search needs
-
 hand-out-requires : tie.Need-hand-out-requires
 hand-out-requires c κs = let z = c .before in let e = z .before .before in let s = start2 e in (
   (facts (e1 (b2 e)) .contracts-given, subst (λ (p : ℕ). Auction (buses (d s)) p (s .args .tranches .now)) (sym (named z)) (facts (e1 (b2 e)) .auction-given)),
-  (loads-given e, refl, zero-cells (buses (d s)) 4096),
+  (loads-given e, s .pre ∙ ap (λ (n : ℕ). replicate n (pos 0)) (facts (e1 (b2 e)) .lengths-pass .result-long)),
 )
 
-returns-3 : tie.Need-returns-3
-returns-3 c = let h = c .before .before in let s = start2 (e2 h) in kept (answer s) (assignment (d s)) (s .args .out .now) (h .hand-out .result) (c .if3 .taken) (cover-is h ∙ sym (after2 (e2 h)))
-
-slice-aggregate-copy : tie.Need-slice-aggregate-copy
-slice-aggregate-copy c = search needs
-
-copy-requires : tie.Need-copy-requires
-copy-requires c κs = let h = c .before .before .before .before in let e = c .before .before in long h (e .if3 .left)
+clear-requires : tie.Need-clear-requires
+clear-requires c κs = search needs
 
 same-length : tie.Need-same-length
 same-length c = search needs
 
+returns-3 : tie.Need-returns-3
+returns-3 c = let k = c .before in let t = k .before .before in let h = t .before .before in let s = start2 (e2 h) in
+    let r = kept (answer s) (assignment (d s)) (s .args .out .now) (h .hand-out .result) (t .if3 .taken) (cover-is h ∙ sym (after2 (e2 h))) in
+    (r .0, k .clear .ensures ∙ cleared _ ∙ ap (λ (n : ℕ). replicate n (pos 0)) (h .hand-out .kept .1 .1 .1 .1 .1 .1 .0) ∙ sym (s .pre) ∙ r .1)
+
+same-length-2 : tie.Need-same-length-2
+same-length-2 c = search needs
+
 returns-4 : tie.Need-returns-4
-returns-4 c = let k = c .before in let h = k .before .before .before .before .before in let e = k .before .before .before in let s = start2 (e2 h) in
-    done (answer s) (assignment (d s)) (s .args .out .now) _ (sym (e .if3 .left) ∙ (cover-is h ∙ sym (after2 (e2 h)))) (k .copy .ensures ∙ result h (e .if3 .left))
+returns-4 c = let h = c .before .before in let s = start2 (e2 h) in
+    done (answer s) (assignment (d s)) (s .args .out .now) _ (sym (c .if3 .left) ∙ (cover-is h ∙ sym (after2 (e2 h)))) (result h (c .if3 .left))
 
 pub assign-spec : {M : Type 1} → statement M
 assign-spec =
@@ -199,10 +195,9 @@ assign-spec =
     returns-2
     slice-aggregate-hand-out
     size-requires
-    slice-aggregate-hand-out-2
     hand-out-requires
-    returns-3
-    slice-aggregate-copy
-    copy-requires
+    clear-requires
     same-length
+    returns-3
+    same-length-2
     returns-4)

@@ -11,7 +11,8 @@ use Rattle.ints.specs.Table.{_at_}
 use Rattle.ints.specs.Refusal.{unless}
 use Rattle.ints.specs.Each.{allTo}
 use lib.Signed.{leZ}
-use lib.IntN.{ℤ, _+ℤ_, _-ℤ_}
+use lib.IntN.{ℤ, pos, _+ℤ_, _-ℤ_}
+use lib.ListN.{length, length-replicate}
 use native.Mathlib.Omega.{arith}
 use native.Mathlib.Nat.{zero-mul}
 use Prim.Native.Nat.{ℕ, _+_, _*_, _<_}
@@ -43,7 +44,7 @@ module _ (x : tie.After-hand-contracts) where
   summed-at : (b : ℕ) → b < n → summed at b ≡ all b
   summed-at b l =
       let first : b ≡ 0 * n + b = omega (arith, zero-mul n) in
-      ap (λ (k : ℕ). summed at k) first ∙ added-zeros 64 {f = λ p b. only (eqb 0 p) (all b)} (x .hand-contracts .ensures .1) 0 b (omega arith) l
+      ap (λ (k : ℕ). summed at k) first ∙ added-zeros 64 refl {f = λ p b. only (eqb 0 p) (all b)} (x .hand-contracts .ensures .1) 0 b (omega arith) l
 
   -- 8, or no refusal
   exceeds : allTo (λ b. leZ (all b) (loads at b)) n ≡ false → contractsRefusal n (start .args .area-parts .now) (start .args .contracts .now) (λ b. loads at b) ≡ 8
@@ -77,7 +78,7 @@ slice-aggregate-hand-contracts : tie.Need-slice-aggregate-hand-contracts
 slice-aggregate-hand-contracts c = search needs
 
 hand-contracts-requires : tie.Need-hand-contracts-requires
-hand-contracts-requires c κs = let s = c .before .before in (s .pre .0 .0, record { table-long = s .pre .1 .1; contracted-long = refl; table-empty = s .pre .1 .2; contracted-empty = zero-cells (s .args .n) 64 })
+hand-contracts-requires c κs = let s = c .before .before in (s .pre .0 .0, record { table-empty = s .pre .1 .1; contracted-empty = refl })
 
 slice-aggregate-all-covered : tie.Need-slice-aggregate-all-covered
 slice-aggregate-all-covered c = search needs
@@ -105,7 +106,7 @@ hand-rests-requires c κs = let e = c .before .before in let x = before (e .befo
       each = left e;
     },
   ),
-  (x .hand-contracts .ensures .0 .same ∙ s .pre .1 .1, added-cells 100000000000 (x .hand-contracts .ensures .0) (s .pre .1 .2) (load-within (s .args .n) (s .args .area-parts .now) (s .args .contracts .now) (s .pre .0 .0) (contractCount (s .args .contracts .now)) (omega arith)) (omega arith)),
+  (x .hand-contracts .ensures .0 .same ∙ ap length (s .pre .1 .1) ∙ length-replicate (64 * s .args .n) (pos 0), added-cells 100000000000 (x .hand-contracts .ensures .0) (zero-cells (64 * s .args .n) (s .pre .1 .1) (s .args .n)) (load-within (s .args .n) (s .args .area-parts .now) (s .args .contracts .now) (s .pre .0 .0) (contractCount (s .args .contracts .now)) (omega arith)) (omega arith)),
 )
 
 same-length-2 : tie.Need-same-length-2

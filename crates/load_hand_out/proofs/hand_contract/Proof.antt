@@ -4,7 +4,7 @@ use Rattle.load.proofs.Tables.{added-same}
 use Rattle.load.specs.Inside.{Splittable, RoomInTables}
 use Rattle.load.specs.InsideTable.{AddedCells}
 use Rattle.load.specs.Load.{identity, supplier, area, kw, partsOf, contractAt}
-use Rattle.split.specs.Split.{parts}
+use Rattle.split.specs.Split.{total, parts}
 use Rattle.ints.specs.Table.{_at_}
 use Rattle.ints.specs.Sum.{only}
 use mir.Facts.{toZ-ofZ}
@@ -35,19 +35,19 @@ module _ (x : tie.After-parts-of) where
   long : length shares ≡ s .args .n
   long = ap length shares-are ∙ length-stretch (s .args .n) (s .args .area-parts .now) (identity (area (s .args .contracts .now) (s .args .j))) (s .pre .0 .0 .placed (s .args .j) (s .pre .0 .1))
 
-kw-is : (c : tie.After-hand-parts-arg3) → let s = c .before .before .before .before .before .before in toZ w64 (ofZ w64 (kw (s .args .contracts .now) (s .args .j))) ≡ kw (s .args .contracts .now) (s .args .j)
-kw-is c = toZ-ofZ {w = w64} (sfits-of (c .before .before .hand-parts-arg .given))
+kw-is : (c : tie.After-hand-parts-arg4) → let s = c .before .before .before .before .before .before .before in toZ w64 (ofZ w64 (kw (s .args .contracts .now) (s .args .j))) ≡ kw (s .args .contracts .now) (s .args .j)
+kw-is c = toZ-ofZ {w = w64} (sfits-of (c .before .before .before .hand-parts-arg .given))
 
 -- what was handed on is what the contract comes to
 module _ (h : tie.After-hand-parts) where
   abbrev y : tie.After-parts-of
-  y = h .before .before .before .before .before
+  y = h .before .before .before .before .before .before
 
   abbrev t : tie.Start
   t = s y
 
-  supplier-is : h .before .before .before .before .size-at2 .result ≡ identity (supplier (t .args .contracts .now) (t .args .j))
-  supplier-is = h .before .before .before .before .size-at2 .ensures
+  supplier-is : h .before .before .before .before .before .size-at2 .result ≡ identity (supplier (t .args .contracts .now) (t .args .j))
+  supplier-is = h .before .before .before .before .before .size-at2 .ensures
 
   given : (q : ℕ) {r : ℕ} {before after : List ℤ} → q ≡ r → AddedCells (length (shares y)) (λ p b. only (eqb q p) (parts (toZ w64 (ofZ w64 (kw (t .args .contracts .now) (t .args .j)))) (shares y) at b)) before after
       → AddedCells (t .args .n) (λ p b. only (eqb r p) (contractAt (t .args .n) (t .args .area-parts .now) (t .args .contracts .now) (t .args .j) b)) before after
@@ -87,9 +87,9 @@ shared-slice-copy-out-hand-parts : tie.Need-shared-slice-copy-out-hand-parts
 shared-slice-copy-out-hand-parts c = search needs
 
 hand-parts-requires : tie.Need-hand-parts-requires
-hand-parts-requires c κs = let x = c .before .before .before .before in let s = x .before .before in (
-  (subst (λ (z : ℤ). Splittable z (shares x)) (sym (kw-is c)) (subst (Splittable (kw (s .args .contracts .now) (s .args .j))) (sym (shares-are x)) (s .pre .0 .0 .splits (s .args .j) (s .pre .0 .1))), omega (arith, c .before .before .before .size-at2 .ensures, s .pre .0 .0 .supplied (s .args .j) (s .pre .0 .1))),
-  subst (λ (n : ℕ). RoomInTables n (s .args .table .now) (s .args .contracted .now)) (sym (long x)) (s .pre .1),
+hand-parts-requires c κs = let x = c .before .before .before .before .before in let s = x .before .before in (
+  (subst (λ (z : ℤ). Splittable z (shares x)) (sym (kw-is c)) (subst (Splittable (kw (s .args .contracts .now) (s .args .j))) (sym (shares-are x)) (s .pre .0 .0 .splits (s .args .j) (s .pre .0 .1))), ap total (shares-are x) ∙ s .pre .0 .0 .whole (s .args .j) (s .pre .0 .1), omega (arith, c .before .before .before .before .size-at2 .ensures, s .pre .0 .0 .supplied (s .args .j) (s .pre .0 .1))),
+  (subst (λ (n : ℕ). RoomInTables n (s .args .table .now) (s .args .contracted .now)) (sym (long x)) (s .pre .1 .0), s .pre .1 .1),
 )
 
 same-length : tie.Need-same-length
@@ -98,8 +98,11 @@ same-length c = search needs
 same-length-2 : tie.Need-same-length-2
 same-length-2 c = search needs
 
+same-length-3 : tie.Need-same-length-3
+same-length-3 c = search needs
+
 returns : tie.Need-returns
-returns c = let h = c .before .before in (given h _ (supplier-is h) (h .hand-parts .ensures .0), given h 0 refl (h .hand-parts .ensures .1))
+returns c = let h = c .before .before .before in (given h _ (supplier-is h) (h .hand-parts .ensures .0), given h 0 refl (h .hand-parts .ensures .1))
 
 pub hand-contract-spec : {M : Type 1} → statement M
 hand-contract-spec =
@@ -118,4 +121,5 @@ hand-contract-spec =
     hand-parts-requires
     same-length
     same-length-2
+    same-length-3
     returns)

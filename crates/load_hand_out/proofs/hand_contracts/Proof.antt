@@ -4,23 +4,27 @@ use Rattle.load.specs.InsideTable.{AddedCells}
 use Rattle.load.specs.Load.{contractCount}
 use native.Mathlib.Omega.{arith}
 use Prim.Native.Nat.{ℕ, _-_, _≤_}
-use mathlib.Core.Path.{_≡_, subst}
+use lib.ListN.{length}
+use mathlib.Core.Path.{_≡_, refl, sym, _∙_, subst}
 use borrow.Author.Needs.{needs}
 use Rattle.load_hand_out.proofs.hand_contracts.Statement.{statement}
 use Rattle.load_hand_out.proofs.hand_contracts.Tie as tie
 
 abbrev Inv-loop : tie.InvT-loop
-Inv-loop n areaParts contracts table₀ contracted₀ count j₀ table contracted j = (j ≤ contractCount contracts) × AddedCells n (firstLoad n areaParts contracts j) table₀ table × AddedCells n (firstAll n areaParts contracts j) contracted₀ contracted
+Inv-loop n areaParts contracts table₀ contracted₀ made₀ count j₀ table contracted made j = (j ≤ contractCount contracts) × AddedCells n (firstLoad n areaParts contracts j) table₀ table × AddedCells n (firstAll n areaParts contracts j) contracted₀ contracted × (length made ≡ 64)
 
 abbrev μ-loop : tie.MeasureT-loop
-μ-loop n areaParts contracts table₀ contracted₀ count j₀ table contracted j = contractCount contracts - j
+μ-loop n areaParts contracts table₀ contracted₀ made₀ count j₀ table contracted made j = contractCount contracts - j
 
 loop-holds : tie.Need-loop-holds Inv-loop μ-loop
-loop-holds c = (search needs, contracts-none (c .args .n) (c .args .area-parts .now) (c .args .contracts .now), contracted-none (c .args .n) (c .args .area-parts .now) (c .args .contracts .now))
+loop-holds c = (search needs, contracts-none (c .args .n) (c .args .area-parts .now) (c .args .contracts .now), contracted-none (c .args .n) (c .args .area-parts .now) (c .args .contracts .now), refl)
+
+slice-aggregate-hand-contract : tie.Need-slice-aggregate-hand-contract Inv-loop μ-loop
+slice-aggregate-hand-contract c = sym (c .before .before .loop .inv .3)
 
 hand-contract-requires : tie.Need-hand-contract-requires Inv-loop μ-loop
-hand-contract-requires c κs = let l = c .before .before .before in let s = l .before in
-    ((s .pre .0, search needs), tables-of (s .args .n) (s .args .area-parts .now) (s .args .contracts .now) (s .pre .0) (l .loop .j) (l .loop .inv .0) (s .pre .1) (l .loop .inv .1) (l .loop .inv .2))
+hand-contract-requires c κs = let l = c .before .before .before .before in let s = l .before in
+    ((s .pre .0, search needs), (tables-of (s .args .n) (s .args .area-parts .now) (s .args .contracts .now) (s .pre .0) (l .loop .j) (l .loop .inv .0) (s .pre .1) (l .loop .inv .1) (l .loop .inv .2), l .loop .inv .3))
 
 add-j : tie.Need-add-j Inv-loop μ-loop
 add-j c = search needs
@@ -29,8 +33,8 @@ loop-less : tie.Need-loop-less Inv-loop μ-loop
 loop-less c = search needs
 
 loop-again : tie.Need-loop-again Inv-loop μ-loop
-loop-again c = let h = c .before .before in let l = h .before .before .before .before in let s = l .before in
-    (search needs, contracts-next (s .args .n) (s .args .area-parts .now) (s .args .contracts .now) (l .loop .j) (l .loop .inv .1) (h .hand-contract .ensures .0), contracted-next (s .args .n) (s .args .area-parts .now) (s .args .contracts .now) (l .loop .j) (l .loop .inv .2) (h .hand-contract .ensures .1))
+loop-again c = let h = c .before .before .before in let l = h .before .before .before .before .before in let s = l .before in
+    (search needs, contracts-next (s .args .n) (s .args .area-parts .now) (s .args .contracts .now) (l .loop .j) (l .loop .inv .1) (h .hand-contract .ensures .0), contracted-next (s .args .n) (s .args .area-parts .now) (s .args .contracts .now) (l .loop .j) (l .loop .inv .2) (h .hand-contract .ensures .1), h .hand-contract .kept .1 .1 .1 .1 .0 ∙ l .loop .inv .3)
 
 same-length : tie.Need-same-length Inv-loop μ-loop
 same-length c = c .before .loop .inv .1 .same
@@ -51,6 +55,7 @@ hand-contracts-spec =
     Inv-loop
     μ-loop
     loop-holds
+    slice-aggregate-hand-contract
     hand-contract-requires
     add-j
     loop-less

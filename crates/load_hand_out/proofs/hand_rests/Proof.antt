@@ -1,108 +1,87 @@
 -- `load_hand_out::hand_rests` meets its contract. Assumes nothing.
-use Rattle.load.proofs.Handed.{firstRest, rests-none, rests-next, rests-done, rests-small}
-use Rattle.load.specs.Inside.{Ranged}
-use Rattle.load.specs.InsideTable.{AddedCells}
-use Rattle.load.specs.Load.{auctioned}
-use Rattle.ints.proofs.Sizes.{w-fits}
+use Rattle.load.proofs.Tables.{added-same}
+use Rattle.load.proofs.Tranches.{packed-front, won-given, won-is}
+use Rattle.load.specs.Inside.{Packed}
 use Rattle.ints.specs.Table.{_at_}
-use Rattle.ints.specs.Sum.{only}
-use mir.Facts.{toZ-ofZ}
-use mir.Val.{SFits, toZ, ofZ}
-use mir.Syntax.{w64}
 use lib.IntN.{ℤ, _-ℤ_}
-use lib.Dec.{eqb}
+use lib.ListN.{length, take}
+use lib.Seq.{length-take-le}
 use native.Mathlib.Omega.{arith}
-use Prim.Native.Nat.{ℕ, _-_, _≤_}
-use mathlib.Core.Path.{_≡_, sym, ap, ap₂, _∙_, subst}
-use borrow.Author.Needs.{needs, sfits-of}
+use Prim.Native.Nat.{ℕ}
+use mathlib.Core.List.{List}
+use mathlib.Core.Path.{_≡_, sym, _∙_, subst}
+use borrow.Author.Needs.{needs}
 use Rattle.load_hand_out.proofs.hand_rests.Statement.{statement}
 use Rattle.load_hand_out.proofs.hand_rests.Tie as tie
 
-abbrev Inv-loop : tie.InvT-loop
-Inv-loop n loads contracted distributor tranches table₀ b₀ table b = (b ≤ n) × AddedCells n (firstRest n distributor tranches loads contracted b) table₀ table
+-- the tranches that were packed, as they are handed on
+module _ (k : tie.After-pack) where
+  abbrev start : tie.Start
+  start = k .before .before .before
 
-abbrev μ-loop : tie.MeasureT-loop
-μ-loop n loads contracted distributor tranches table₀ b₀ table b = n - b
+  abbrev m : ℕ
+  m = k .pack .result
 
--- what remains at a bus, as it is read
-module _ (c : tie.After-remaining2 Inv-loop μ-loop) where
-  abbrev l : tie.At-loop Inv-loop μ-loop
-  l = c .before .before .before
+  abbrev won : List ℤ
+  won = take m (k .pack .last .1 .0)
 
-  abbrev left : ℤ
-  left = l .before .args .loads .now at l .loop .b -ℤ l .before .args .contracted .now at l .loop .b
+  abbrev winners : List ℕ
+  winners = take m (k .pack .last .1 .1 .0)
 
-  abbrev read : ℤ
-  read = toZ w64 (ofZ w64 (l .before .args .loads .now at l .loop .b)) -ℤ toZ w64 (ofZ w64 (l .before .args .contracted .now at l .loop .b))
+  won-long : length won ≡ m
+  won-long = length-take-le m (k .pack .last .1 .0) (omega (arith, k .pack .ensures .few, k .pack .kept .1 .0))
 
-  difference : read ≡ left
-  difference = ap₂ _-ℤ_ (toZ-ofZ {w = w64} {z = l .before .args .loads .now at l .loop .b} (sfits-of (c .before .remaining .given))) (toZ-ofZ {w = w64} {z = l .before .args .contracted .now at l .loop .b} (sfits-of (c .remaining2 .given)))
+  winners-long : length winners ≡ m
+  winners-long = length-take-le m (k .pack .last .1 .1 .0) (omega (arith, k .pack .ensures .few, k .pack .kept .1 .1 .0))
 
-  fits : SFits w64 left
-  fits = w-fits {k = 20000000} (record { within = l .before .pre .0 .1 .each (l .loop .b) (c .before .before .loop-test .taken) .small }) tt
+  packed : Packed (start .args .tranches .now) 64 won winners (length won)
+  packed = subst (Packed (start .args .tranches .now) 64 won winners) (sym won-long) (packed-front (k .pack .ensures))
 
-  remaining : toZ w64 (ofZ w64 read) ≡ left
-  remaining = ap (λ (z : ℤ). toZ w64 (ofZ w64 z)) difference ∙ toZ-ofZ fits
+  beside : length winners ≡ length won
+  beside = winners-long ∙ sym won-long
 
-loop-holds : tie.Need-loop-holds Inv-loop μ-loop
-loop-holds c = (search needs, rests-none (c .args .n) (c .args .distributor) (c .args .tranches .now) (c .args .loads .now) (c .args .contracted .now))
+slice-aggregate-pack : tie.Need-slice-aggregate-pack
+slice-aggregate-pack c = search needs
 
-mul-remaining : tie.Need-mul-remaining Inv-loop μ-loop
-mul-remaining c = search needs
+slice-aggregate-pack-2 : tie.Need-slice-aggregate-pack-2
+slice-aggregate-pack-2 c = search needs
 
-shared-slice-copy-out-remaining : tie.Need-shared-slice-copy-out-remaining Inv-loop μ-loop
-shared-slice-copy-out-remaining c = search needs
+pack-requires : tie.Need-pack-requires
+pack-requires c κs = search needs
 
-mul-remaining-2 : tie.Need-mul-remaining-2 Inv-loop μ-loop
-mul-remaining-2 c = search needs
+array-share-prefix-won : tie.Need-array-share-prefix-won
+array-share-prefix-won c = search needs
 
-shared-slice-copy-out-remaining-2 : tie.Need-shared-slice-copy-out-remaining-2 Inv-loop μ-loop
-shared-slice-copy-out-remaining-2 c = search needs
+slice-aggregate-hand-won : tie.Need-slice-aggregate-hand-won
+slice-aggregate-hand-won c = sym (won-long (c .before .before .before))
 
-sub-remaining : tie.Need-sub-remaining Inv-loop μ-loop
-sub-remaining c = let s = c .before .before .before .before in subst (SFits w64) (sym (difference c)) (fits c)
+array-share-prefix-winners : tie.Need-array-share-prefix-winners
+array-share-prefix-winners c = search needs
 
-hand-rest-requires : tie.Need-hand-rest-requires Inv-loop μ-loop
-hand-rest-requires c κs = let r = c .before in let l = r .before .before .before in let s = l .before in (
-  (s .pre .0 .0, subst Ranged (sym (remaining r)) (s .pre .0 .1 .each (l .loop .b) (r .before .before .loop-test .taken)), r .before .before .loop-test .taken),
-  (l .loop .inv .1 .same ∙ s .pre .1 .0, rests-small (s .args .n) (s .args .distributor) (s .args .tranches .now) (s .args .loads .now) (s .args .contracted .now) (s .pre .0 .0) (s .pre .0 .1) (l .loop .b) (s .pre .1 .1) (l .loop .inv .1)),
-)
+slice-aggregate-hand-won-2 : tie.Need-slice-aggregate-hand-won-2
+slice-aggregate-hand-won-2 c = sym (winners-long (c .before .before .before .before))
 
-add-b : tie.Need-add-b Inv-loop μ-loop
-add-b c = search needs
+hand-won-requires : tie.Need-hand-won-requires
+hand-won-requires c κs = let k = c .before .before .before .before .before in let s = start k in ((won-given (s .pre .0 .0) (packed k) (beside k), s .pre .0 .1), (s .pre .0 .0 .buses, s .pre .1 .0, s .pre .1 .1))
 
-loop-less : tie.Need-loop-less Inv-loop μ-loop
-loop-less c = search needs
+same-length : tie.Need-same-length
+same-length c = search needs
 
-loop-again : tie.Need-loop-again Inv-loop μ-loop
-loop-again c = let h = c .before in let r = h .before .before in let l = r .before .before .before in let s = l .before in (
-  search needs,
-  rests-next (s .args .n) (s .args .distributor) (s .args .tranches .now) (s .args .loads .now) (s .args .contracted .now) (l .loop .b) (l .loop .inv .1)
-      (subst (λ (z : ℤ). AddedCells (s .args .n) (λ p b. only (eqb (l .loop .b) b) (auctioned (s .args .distributor) (s .args .tranches .now) z p)) (l .loop .table) (h .hand-rest .last .1 .1 .1 .1 .1 .0)) (remaining r) (h .hand-rest .ensures)),
-)
-
-same-length : tie.Need-same-length Inv-loop μ-loop
-same-length c = c .before .loop .inv .1 .same
-
-returns : tie.Need-returns Inv-loop μ-loop
-returns c = let l = c .before in let s = l .before in let e : l .loop .b ≡ s .args .n = omega arith in
-    rests-done (s .args .n) (s .args .distributor) (s .args .tranches .now) (s .args .loads .now) (s .args .contracted .now) (subst (λ (b : ℕ). AddedCells (s .args .n) (firstRest (s .args .n) (s .args .distributor) (s .args .tranches .now) (s .args .loads .now) (s .args .contracted .now) b) (s .args .table .now) (l .loop .table)) e (l .loop .inv .1))
+returns : tie.Need-returns
+returns c = let h = c .before in let k = h .before .before .before .before .before .before in let s = start k in
+    added-same _ (h .hand-won .ensures) (λ p b u l. won-is (s .pre .0 .0) (packed k) (beside k) (s .args .loads .now at b -ℤ s .args .contracted .now at b) (s .pre .0 .1 .each b l) p u)
 
 pub hand-rests-spec : {M : Type 1} → statement M
 hand-rests-spec =
     tie.close
     (tie.spec
-    Inv-loop
-    μ-loop
-    loop-holds
-    mul-remaining
-    shared-slice-copy-out-remaining
-    mul-remaining-2
-    shared-slice-copy-out-remaining-2
-    sub-remaining
-    hand-rest-requires
-    add-b
-    loop-less
-    loop-again
+    slice-aggregate-pack
+    slice-aggregate-pack-2
+    pack-requires
+    array-share-prefix-won
+    slice-aggregate-hand-won
+    array-share-prefix-winners
+    slice-aggregate-hand-won-2
+    hand-won-requires
     same-length
     returns)

@@ -37,7 +37,7 @@ module _ (l : tie.Else1) where
   net-is = t .settle .ensures .1 .1 .1 .1 ∙ lent-result (t .settle .result) _ _ (l .if1 .left)
 
   lists : {page : ℕ} → 6825 ≤ page → Printable page (t .settle .last .1 .0) (t .settle .last .1 .1 .0) (t .settle .last .1 .1 .1 .0) (t .settle .last .1 .1 .1 .1 .0)
-  lists = hours.lists-of file (s .pre .0 .0) (s .pre .1) (t .settle .result) (t .settle .ensures .0) (l .if1 .left) congestion-is loss-is credit-is net-is
+  lists = hours.lists-of file (s .pre .0 .0) (s .pre .1 .0) (t .settle .result) (t .settle .ensures .0) (l .if1 .left) congestion-is loss-is credit-is net-is
 
 settle-requires : tie.Need-settle-requires
 settle-requires c κs = search needs
@@ -63,7 +63,7 @@ same-length-5 c = search needs
 returns : tie.Need-returns
 returns c = let t = c .before .before .before .before .before .before .before .before .before in
     let s = t .before .before .before .before .before .before .before in (
-      told (c .before .before .put-refused .ensures .0) (hours.refused-late (s .args .file .now) (s .pre .0 .0) (s .pre .1) (t .settle .result) (t .settle .ensures .0) (c .before .before .before .before .if1 .taken)),
+      told (c .before .before .put-refused .ensures .0) (hours.refused-late (s .args .file .now) (s .pre .0 .0) (s .pre .1 .0) (t .settle .result) (t .settle .ensures .0) (c .before .before .before .before .if1 .taken)),
       search needs,
     )
 
@@ -89,7 +89,7 @@ same-length-10 c = search needs
 returns-2 : tie.Need-returns-2
 returns-2 c = let l = c .before .before .before .before .before .before .before .before in
     let w = c .before .before .put-settled .ensures in
-    (told (w .0) (hours.lines-are (file l) (s l .pre .0 .0) (s l .pre .1) (t l .settle .result) (t l .settle .ensures .0) (l .if1 .left) (congestion-is l) (loss-is l) (credit-is l) (net-is l)), w .1)
+    (told (w .0) (hours.lines-are (file l) (s l .pre .0 .0) (s l .pre .1 .0) (t l .settle .result) (t l .settle .ensures .0) (l .if1 .left) (congestion-is l) (loss-is l) (credit-is l) (net-is l)), w .1)
 
 pub put-hour-spec : {M : Type 1} → statement M
 put-hour-spec =

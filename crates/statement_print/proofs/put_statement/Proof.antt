@@ -7,6 +7,8 @@ use lib.IntN.{pos}
 use lib.ListN.{length, take, replicate}
 use lib.Seq.{length-take-le}
 use borrow.Author.Needs.{needs}
+use Rattle.ints.specs.InsideRange.{InRange}
+use Rattle.ints.proofs.Ranges.{cut-range, zeros-range}
 use Rattle.text.proofs.Laws as laws
 use Rattle.exercise.specs.Order.{frameRefusal}
 use Rattle.exercise.specs.declared.Header.{Header}
@@ -38,6 +40,9 @@ module _ (h : tie.After-read-header) where
 
   as-many : length (take (h .read-header .result .participants) (replicate 64 (pos 0))) ≡ hourOf file .participants
   as-many = front few ∙ count
+
+  empty : InRange (take (h .read-header .result .participants) (replicate 64 (pos 0))) 0
+  empty = cut-range 0 (h .read-header .result .participants) (zeros-range 64 0)
 
 frame-refusal-requires : tie.Need-frame-refusal-requires
 frame-refusal-requires c κs = search needs
@@ -79,7 +84,7 @@ slice-aggregate-put-hour-4 c = sym (front (few (c .before .before .before .befor
 
 put-hour-requires : tie.Need-put-hour-requires
 put-hour-requires c κs = let h = c .before .before .before .before .before in
-    ((passes h, search needs), record { congestion-each = as-many h; loss-each = as-many h; credit-each = as-many h; net-each = as-many h })
+    ((passes h, search needs), (record { congestion-each = as-many h; loss-each = as-many h; credit-each = as-many h; net-each = as-many h }, record { congestion-empty = empty h; loss-empty = empty h; credit-empty = empty h }))
 
 returns-2 : tie.Need-returns-2
 returns-2 c = let w = c .before .before .before .before .put-hour .ensures in

@@ -363,7 +363,8 @@ fn large_with_fault(round: usize, random: &mut Random) -> Case {
         6 => add_transaction(file, MOST_KW, random),
         7 => case.excess = 1,
         8 => file.told_edition = Some(2),
-        9 => file.transactions[255].seller = Some(63),
+        9 if edition == Edition::WithSeller => file.transactions[255].seller = Some(63),
+        9 => file.transactions[255].participant = 63,
         _ => *file.loss.last_mut().unwrap() = -MOST_PRICE - 1,
     }
     case
