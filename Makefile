@@ -23,7 +23,7 @@ ARCHIVE = $(BUILT)
 RT = rt
 ifeq ($(shell uname -m),x86_64)
 BUILT = target/staticlib/libwunzelihle.a
-BUILD = $(RT) staticlib wunzelihle
+BUILD = RT=$(RT) tools/archive wunzelihle
 else
 BUILT = target/native/libwunzelihle.a
 BUILD = tools/native-archive wunzelihle target/native

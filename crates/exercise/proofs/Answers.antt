@@ -1,6 +1,5 @@
 -- A row, and a transaction, that was decoded in turn: accepted, all up to it have no refusal; refused, its refusal is that of all. Assumes nothing.
-use mathlib.Core.Path.{◌≡◌, refl, sym, ap, ◌∙◌}
-use mathlib.Core.Bool.{Bool, true, false}
+use mathlib.Core.Path.{◌≡◌, refl}
 use mathlib.Core.List.{List}
 use Prim.Native.Nat.{ℕ, ◌+◌, ◌<◌}
 use native.Mathlib.Omega.{arith}
@@ -9,9 +8,7 @@ use Rattle.exercise.specs.File.{row_at, transaction_at}
 use Rattle.exercise.specs.Order.{row_refusal_at, transaction_refusal_at}
 use Rattle.exercise.specs.Decoding.{decoded_row_refusal, decoded_transaction_refusal}
 use Rattle.exercise.specs.declared.DecodedRow.{DecodedRow}
-use Rattle.exercise.specs.declared.DecodedRow.TheVariants as DecodedRow
 use Rattle.exercise.specs.declared.DecodedTransaction.{DecodedTransaction}
-use Rattle.exercise.specs.declared.DecodedTransaction.TheVariants as DecodedTransaction
 use Rattle.hour.specs.declared.Edition.{Edition}
 use Rattle.hour.specs.declared.Row.{Row}
 use Rattle.hour.specs.declared.Transaction.{Transaction}

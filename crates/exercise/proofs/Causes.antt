@@ -23,7 +23,6 @@ use Rattle.hour.proofs.Causes.{Outside, none-outside, Stands, HasHour, line-stan
 use Rattle.exercise.specs.Cause.{file_numbers, given_numbers, header_cause, headless_cause, frame_cause, hour_cause, counts_cause, lists_cause, given_cause}
 use Rattle.exercise.specs.Decoding.{count_of}
 use Rattle.hour.specs.declared.Edition.{Edition}
-use Rattle.hour.specs.declared.Edition.TheVariants as Edition
 use Rattle.exercise.specs.File.{header, places_of, hour_of}
 use Rattle.exercise.specs.Layout.{header_size, edition_of}
 use Rattle.exercise.specs.Inside.{Small}

@@ -10,7 +10,6 @@ use lib.ListN.{length}
 use borrow.Author.Tests.{le-leb}
 use Rattle.ints.specs.Each.{Every}
 use Rattle.ints.specs.Table.{all}
-use Rattle.ints.specs.Turn.{◌then◌}
 use Rattle.ints.specs.Twos.{InBits}
 use Rattle.ints.proofs.Eachs.{all-every}
 use Rattle.ints.proofs.Refusals.{passed}
@@ -20,7 +19,6 @@ use Rattle.hour.specs.Hour.{Hour, all_prices}
 use Rattle.hour.specs.InsideTested.{Timed, TransactionTested}
 use Rattle.hour.specs.Order.{is_price, row_refusal, packed_row_refusal, transaction_refusal, packed_transaction_refusal, prices_refusal, rows_refusal, transactions_refusal, content_refusal}
 use Rattle.hour.specs.declared.Edition.{Edition}
-use Rattle.hour.specs.declared.Edition.TheVariants as Edition
 use Rattle.hour.specs.declared.Row.{Row}
 use Rattle.hour.specs.declared.Transaction.{Transaction}
 use Rattle.hour.proofs.Tested.{row-tested, transaction-tested, interval-below}

@@ -19,7 +19,6 @@ use Rattle.hour.specs.Hour.{Hour}
 use Rattle.hour.specs.Order.{content_refusal}
 use Rattle.exercise.specs.Decoding.{count_of}
 use Rattle.hour.specs.declared.Edition.{Edition}
-use Rattle.hour.specs.declared.Edition.TheVariants as Edition
 use Rattle.exercise.specs.File.{header, edition_in}
 use Rattle.exercise.specs.Lists.{Content, content, row_given, transaction_length, transaction_given, edition_given, hour_given, counts_refusal, lists_refusal, no_spare, write_refusal, read_refusal}
 use Rattle.exercise.specs.Order.{frame_refusal, file_refusal, in_bytes}

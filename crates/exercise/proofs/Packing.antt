@@ -13,7 +13,6 @@ use Rattle.hour.specs.declared.Row.{Row}
 use Rattle.hour.specs.declared.Transaction.{Transaction}
 use Rattle.exercise.specs.Inside.{header_bits}
 use Rattle.hour.specs.declared.Edition.{Edition}
-use Rattle.hour.specs.declared.Edition.TheVariants as Edition
 use Rattle.exercise.specs.File.{header_of, row_of, row_spare, transaction_of, transaction_spare}
 use Rattle.exercise.specs.Layout.{header_widths, header_size, row_widths, row_size, transaction_widths, transaction_size}
 use Rattle.exercise.specs.Packed.{bytes_at, bits_in}

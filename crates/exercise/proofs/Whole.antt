@@ -11,7 +11,6 @@ use Rattle.ints.proofs.Refusals.{passed}
 use Rattle.exercise.specs.File.{header, places_of, places, bytes_from}
 use Rattle.exercise.specs.Layout.{header_size, transaction_size, edition_number, edition_of}
 use Rattle.hour.specs.declared.Edition.{Edition}
-use Rattle.hour.specs.declared.Edition.TheVariants as Edition
 use Rattle.exercise.specs.Inside.{Small}
 use Rattle.exercise.specs.Order.{header_refusal, frame_refusal}
 use Rattle.exercise.specs.declared.Header.{Header}

@@ -1,14 +1,12 @@
 -- Why a file, or an hour in lists of numbers, is refused, worked. Assumes nothing.
-use Rattle.std.specs.Prelude.{◌≡◌, refl, List, [], ◌∷◌, ◌++◌, ℕ, ℤ, pos, negsuc}
+use Rattle.std.specs.Prelude.{◌≡◌, refl, [], ◌∷◌, ℕ, pos, negsuc}
 use Rattle.hour.specs.Cause.{of_file, of_header, of_list, cause, no_cause, tested}
 use Rattle.hour.specs.declared.Cause.{Cause}
 use Rattle.hour.specs.declared.Edition.TheVariants as Edition
-use Rattle.exercise.specs.CasesFile.{times}
 use Rattle.exercise.specs.Cause.{header_cause, frame_cause, counts_cause, lists_cause}
 use Rattle.exercise.specs.File.{header, places_of}
 use Rattle.exercise.specs.Lists.{participants_of}
 use Rattle.exercise.specs.Packed.{bytes_at}
-use Rattle.exercise.specs.declared.Header.{Header}
 
 -- ---- a header of 4 participants and 2 locations, in a file of so many bytes
 

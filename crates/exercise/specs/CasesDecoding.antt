@@ -5,7 +5,6 @@ use Rattle.exercise.specs.Packed.{bytes_at}
 use Rattle.hour.specs.Order.{row_refusal, transaction_refusal}
 use Rattle.exercise.specs.declared.DecodedRow.TheVariants.{Decoded, Refused}
 use Rattle.exercise.specs.declared.DecodedTransaction.{DecodedTransaction}
-use Rattle.exercise.specs.declared.DecodedTransaction.TheVariants as DecodedTransaction
 use Rattle.hour.specs.Order.{packed_row_refusal, packed_transaction_refusal}
 use Rattle.hour.specs.declared.Edition.TheVariants as Edition
 
@@ -14,19 +13,19 @@ six a b c d e f = a ∷ b ∷ c ∷ d ∷ e ∷ f ∷ []
 
 -- ---- the three rows of the statement program
 
--- real time, load, interval 0, participant 0, location 1, 200,000 k_w
+-- real time, load, interval 0, participant 0, location 1, 200,000 kW
 load : decoded_row (pos 2) (pos 2) (six 0x80 0x00 0x10 0x18 0x6A 0x00)
     ≡ Decoded (record { market = 1; kind = 0; interval = 0; participant = 0; location = 1; kw = record { 0 = 200000 } })
 unfolding bytes_at packed_row_refusal row_refusal
 load = refl
 
--- real time, generation, interval 0, participant 1, location 0, 110,000 k_w
+-- real time, generation, interval 0, participant 1, location 0, 110,000 kW
 generation : decoded_row (pos 2) (pos 2) (six 0x90 0x04 0x00 0x0D 0x6D 0x80)
     ≡ Decoded (record { market = 1; kind = 1; interval = 0; participant = 1; location = 0; kw = record { 0 = 110000 } })
 unfolding bytes_at packed_row_refusal row_refusal
 generation = refl
 
--- real time, export, interval 0, participant 1, location 1, 100,000 k_w
+-- real time, export, interval 0, participant 1, location 1, 100,000 kW
 export : decoded_row (pos 2) (pos 2) (six 0xA0 0x04 0x10 0x0C 0x35 0x00)
     ≡ Decoded (record { market = 1; kind = 2; interval = 0; participant = 1; location = 1; kw = record { 0 = 100000 } })
 unfolding bytes_at packed_row_refusal row_refusal
@@ -39,7 +38,7 @@ last : decoded_row (pos 64) (pos 64) (six 0x50 0xFF 0xF0 0x00 0x00 0x00)
 unfolding bytes_at packed_row_refusal row_refusal
 last = refl
 
--- import, 20,000,000 k_w
+-- import, 20,000,000 kW
 last-interval : decoded_row (pos 1) (pos 1) (six 0xBB 0x00 0x09 0x89 0x68 0x00)
     ≡ Decoded (record { market = 1; kind = 3; interval = 11; participant = 0; location = 0; kw = record { 0 = 20000000 } })
 unfolding bytes_at packed_row_refusal row_refusal
@@ -101,12 +100,12 @@ stranger : decoded_row (pos 2) (pos 2) (six 0x80 0x08 0x00 0x00 0x00 0x00) ≡ R
 unfolding bytes_at packed_row_refusal row_refusal
 stranger = refl
 
--- location 1 of 1, with 20,000,001 k_w and a spare bit
+-- location 1 of 1, with 20,000,001 kW and a spare bit
 off-the-map : decoded_row (pos 1) (pos 1) (six 0x00 0x00 0x19 0x89 0x68 0x09) ≡ Refused 3
 unfolding bytes_at packed_row_refusal row_refusal
 off-the-map = refl
 
--- 20,000,001 k_w and a spare bit, and the spare bit alone
+-- 20,000,001 kW and a spare bit, and the spare bit alone
 much : decoded_row (pos 1) (pos 1) (six 0x00 0x00 0x09 0x89 0x68 0x09) ≡ Refused 2
 unfolding bytes_at packed_row_refusal row_refusal
 much = refl
@@ -115,7 +114,7 @@ spare : decoded_row (pos 1) (pos 1) (six 0x00 0x00 0x09 0x89 0x68 0x01) ≡ Refu
 unfolding bytes_at packed_row_refusal row_refusal
 spare = refl
 
--- ---- a transaction: real time, interval 11, participant 1, from location 2 to location 3, 20,000,000 k_w
+-- ---- a transaction: real time, interval 11, participant 1, from location 2 to location 3, 20,000,000 kW
 
 path : decoded_transaction Edition.PathOnly (pos 2) (pos 4) (six 0xD8 0x21 0x07 0x31 0x2D 0x00)
     ≡ DecodedTransaction.Decoded (record { market = 1; interval = 11; participant = 1; seller = 0; source = 2; sink = 3; kw = record { 0 = 20000000 } })
@@ -148,7 +147,7 @@ path-interval-12 : decoded_transaction Edition.PathOnly (pos 1) (pos 1) (six 0xE
 unfolding bytes_at packed_transaction_refusal transaction_refusal
 path-interval-12 = refl
 
--- 20,000,001 k_w of participant 1 of 1; from location 1 of 1; to location 1 of 1; and with nothing else wrong
+-- 20,000,001 kW of participant 1 of 1; from location 1 of 1; to location 1 of 1; and with nothing else wrong
 path-stranger : decoded_transaction Edition.PathOnly (pos 1) (pos 1) (six 0x80 0x20 0x01 0x31 0x2D 0x01) ≡ DecodedTransaction.Refused 3
 unfolding bytes_at packed_transaction_refusal transaction_refusal
 path-stranger = refl
@@ -171,7 +170,7 @@ abbrev sale : List ℕ → DecodedTransaction
 sale bytes = decoded_transaction Edition.WithSeller (pos 1) (pos 1) bytes
 
 pub record SaleCases : Type 0 where
-  -- real time, interval 11, participant 4, seller 1, from location 2 to location 3, 20,000,000 k_w
+  -- real time, interval 11, participant 4, seller 1, from location 2 to location 3, 20,000,000 kW
   pub some : decoded_transaction Edition.WithSeller (pos 5) (pos 4) (0xD8 ∷ 0x80 ∷ 0x84 ∷ 0x1C ∷ 0xC4 ∷ 0xB4 ∷ 0x00 ∷ [])
       ≡ DecodedTransaction.Decoded (record { market = 1; interval = 11; participant = 4; seller = 1; source = 2; sink = 3; kw = record { 0 = 20000000 } })
   -- of participant 63, who sells it to itself, from location 63 to it
@@ -182,7 +181,7 @@ pub record SaleCases : Type 0 where
   pub eight-bytes : sale (0x00 ∷ 0x00 ∷ 0x00 ∷ 0x00 ∷ 0x00 ∷ 0x00 ∷ 0x00 ∷ 0x00 ∷ []) ≡ DecodedTransaction.Refused 9
   -- day-ahead at interval 1, with everything else wrong, too
   pub late : sale (0x0F ∷ 0xFF ∷ 0xFF ∷ 0xFF ∷ 0xFF ∷ 0xFF ∷ 0xFF ∷ []) ≡ DecodedTransaction.Refused 4
-  -- 20,000,001 k_w and both spare bits, of participant 1 of 1; of seller 1 of 1; from location 1 of 1; to location 1 of 1; and with nothing else wrong
+  -- 20,000,001 kW and both spare bits, of participant 1 of 1; of seller 1 of 1; from location 1 of 1; to location 1 of 1; and with nothing else wrong
   pub stranger : sale (0x80 ∷ 0x20 ∷ 0x00 ∷ 0x04 ∷ 0xC4 ∷ 0xB4 ∷ 0x07 ∷ []) ≡ DecodedTransaction.Refused 3
   pub seller : sale (0x80 ∷ 0x00 ∷ 0x80 ∷ 0x04 ∷ 0xC4 ∷ 0xB4 ∷ 0x07 ∷ []) ≡ DecodedTransaction.Refused 3
   pub source : sale (0x80 ∷ 0x00 ∷ 0x02 ∷ 0x04 ∷ 0xC4 ∷ 0xB4 ∷ 0x07 ∷ []) ≡ DecodedTransaction.Refused 3

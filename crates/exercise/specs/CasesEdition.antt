@@ -117,7 +117,7 @@ list_cases = record { given-hour = refl; transactions-listed = refl; content-aga
 
 -- ---- the last transaction refused: "seller 3, after the participant; spare bits 9, after the kW"
 
--- participant 4 and seller 5 of 4; seller 5, 20,000,001 k_w and both spare bits; these k_w and bits; and one of the bits alone
+-- participant 4 and seller 5 of 4; seller 5, 20,000,001 kW and both spare bits; these kW and bits; and one of the bits alone
 abbrev strangers : List ℕ
 strangers = sold_with (0x00 ∷ 0x82 ∷ 0x80 ∷ 0x08 ∷ 0x00 ∷ 0x09 ∷ 0x60 ∷ [])
 
@@ -146,7 +146,7 @@ pub record LastCases : Type 0 where
   pub too_much_lem : file_refusal too_much ≡ 2
   pub lower-spare : file_refusal lower_spare ≡ 9
   pub upper-spare : file_refusal upper_spare ≡ 9
-  -- the participant is field 2, the seller 6, the k_w 5 and the spare bits 7
+  -- the participant is field 2, the seller 6, the kW 5 and the spare bits 7
   pub why-strangers : why strangers ≡ cause 3 of_transaction 1 2 (pos 4) (pos 0) (pos 3)
   pub why-no-seller : why no_seller ≡ cause 3 of_transaction 1 6 (pos 5) (pos 0) (pos 3)
   pub why-too-much : why too_much ≡ cause 2 of_transaction 1 5 (pos 20000001) (pos 0) (pos 20000000)

@@ -101,11 +101,11 @@ one_row price row transaction = (0x04 ∷ 0x00 ∷ 0x01 ∷ 0x00 ∷ 0x40 ∷ []
 abbrev no_price : List ℕ
 no_price = 0x00 ∷ 0x00 ∷ 0x00 ∷ []
 
--- real-time export in interval 11: participant 1, location 0, 5 k_w
+-- real-time export in interval 11: participant 1, location 0, 5 kW
 abbrev export : List ℕ
 export = 0xAB ∷ 0x04 ∷ 0x00 ∷ 0x00 ∷ 0x00 ∷ 0x28 ∷ []
 
--- real time, interval 9, participant 1, from location 0 to it, 7 k_w
+-- real time, interval 9, participant 1, from location 0 to it, 7 kW
 abbrev circle : List ℕ
 circle = 0xC8 ∷ 0x20 ∷ 0x00 ∷ 0x00 ∷ 0x00 ∷ 0x07 ∷ []
 
@@ -186,7 +186,7 @@ in-turn-too = refl
 abbrev two_paths : List ℕ → List ℕ → List ℕ
 two_paths path next = (0x04 ∷ 0x00 ∷ 0x00 ∷ 0x00 ∷ 0x80 ∷ []) ++ times 78 (0x00 ∷ []) ++ path ++ next
 
--- real time, interval 9, participant 1, 20,000,001 k_w
+-- real time, interval 9, participant 1, 20,000,001 kW
 abbrev too_much : List ℕ
 too_much = 0xC8 ∷ 0x20 ∷ 0x01 ∷ 0x31 ∷ 0x2D ∷ 0x01 ∷ []
 

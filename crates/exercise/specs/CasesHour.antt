@@ -56,9 +56,9 @@ congested =
     -- loss: 60 and 36 day-ahead, 240 at both in every interval
     ++ (0x00 ∷ 0x00 ∷ 0x3C ∷ 0x00 ∷ 0x00 ∷ 0x24 ∷ [])
     ++ times 24 (0x00 ∷ 0x00 ∷ 0xF0 ∷ [])
-    -- participant 0 at location 0: day-ahead load, 1,000 k_w; export in interval 11, 5,500 k_w
+    -- participant 0 at location 0: day-ahead load, 1,000 kW; export in interval 11, 5,500 kW
     ++ (0x00 ∷ 0x00 ∷ 0x00 ∷ 0x00 ∷ 0x1F ∷ 0x40 ∷ 0xAB ∷ 0x00 ∷ 0x00 ∷ 0x00 ∷ 0xAB ∷ 0xE0 ∷ [])
-    -- participant 1: load at location 0 in interval 5, 10,000 k_w; day-ahead from location 1 to location 0, 5,000 k_w
+    -- participant 1: load at location 0 in interval 5, 10,000 kW; day-ahead from location 1 to location 0, 5,000 kW
     ++ (0x85 ∷ 0x04 ∷ 0x00 ∷ 0x01 ∷ 0x38 ∷ 0x80 ∷ 0x00 ∷ 0x20 ∷ 0x80 ∷ 0x00 ∷ 0x13 ∷ 0x88 ∷ [])
 
 -- 0: 60 cents day-ahead, 12 as that is taken back, -5.5 for the export, 66.5 in all. 1: -10 for the load; on the path -50 day-ahead and 30 as that is paid back
@@ -71,7 +71,7 @@ congested-loss : loss_charges_of (hour_of congested) ≡ neg_ℤ (pos 7) ∷ pos
 unfolding loss_charges_of tab cents_of charge position_charge path_charge ahead_at real_at ahead_path real_path Σℤ sum_to header bytes_at places_of
 congested-loss = refl
 
--- 25 over 5,500 and 10,000 k_w: 8 and 16, with the remainders 13,500 and 2,000 of 15,500, and the cent left to the first
+-- 25 over 5,500 and 10,000 kW: 8 and 16, with the remainders 13,500 and 2,000 of 15,500, and the cent left to the first
 congested-credit : credits (hour_of congested) ≡ pos 9 ∷ pos 16 ∷ []
 unfolding credits parts part cut_down remainder units_left before place total sum_nat surplus shares tab cents_of charge position_charge path_charge ahead_at real_at ahead_path real_path Σℤ sum_to header bytes_at places_of
 congested-credit = refl
@@ -96,7 +96,7 @@ highest = 0x4C ∷ 0x4B ∷ 0x40 ∷ []
 abbrev higher : List ℕ
 higher = 0x4C ∷ 0x4B ∷ 0x41 ∷ []
 
--- day-ahead load of 20,000,000 k_w, and of 1,000 k_w
+-- day-ahead load of 20,000,000 kW, and of 1,000 kW
 abbrev pub heaviest : List ℕ
 heaviest = 0x00 ∷ 0x00 ∷ 0x09 ∷ 0x89 ∷ 0x68 ∷ 0x00 ∷ []
 
@@ -107,7 +107,7 @@ light = 0x00 ∷ 0x00 ∷ 0x00 ∷ 0x00 ∷ 0x1F ∷ 0x40 ∷ []
 abbrev spared : List ℕ
 spared = 0x00 ∷ 0x00 ∷ 0x09 ∷ 0x89 ∷ 0x68 ∷ 0x01 ∷ []
 
--- the same with one transaction: real time, interval 0, participant 0, 20,000,001 k_w
+-- the same with one transaction: real time, interval 0, participant 0, 20,000,001 kW
 abbrev path_file : List ℕ → List ℕ → List ℕ → List ℕ
 path_file loss row path = (0x00 ∷ 0x00 ∷ 0x01 ∷ 0x00 ∷ 0x40 ∷ []) ++ times 39 (0x00 ∷ []) ++ loss ++ times 36 (0x00 ∷ []) ++ row ++ path
 
@@ -129,7 +129,7 @@ row_before : hour_refusal in_numbers (small_file no_price highest spared) (1 ∷
 unfolding hour_refusal all frame_refusal header_refusal content_refusal prices_refusal rows_refusal transactions_refusal in_order tab packed_row_refusal row_refusal packed_transaction_refusal transaction_refusal header bytes_at places_of
 row_before = refl
 
--- a transaction of 20,000,001 k_w before it
+-- a transaction of 20,000,001 kW before it
 transaction-before : hour_refusal in_numbers (path_file highest heaviest too_much) (1 ∷ 1 ∷ 1 ∷ 1 ∷ []) ≡ 2
 unfolding hour_refusal all frame_refusal header_refusal content_refusal prices_refusal rows_refusal transactions_refusal in_order tab packed_row_refusal row_refusal packed_transaction_refusal transaction_refusal header bytes_at places_of
 transaction-before = refl

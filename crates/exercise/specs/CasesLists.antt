@@ -1,7 +1,7 @@
 -- What is refused of an hour in lists of numbers, at both sides of each limit and where two reasons meet, and what the lists and the buffer hold. In most of `WriteCases`
 -- something is wrong that a later test would refuse: an answer tells whether what is tried is taken (then it is the later one's), and that its own reason comes first.
 -- Assumes nothing.
-use Rattle.std.specs.Prelude.{◌≡◌, refl, List, [], ◌∷◌, ◌++◌, ℕ, ◌+◌, ℤ, pos, negsuc, take, drop}
+use Rattle.std.specs.Prelude.{◌≡◌, refl, List, [], ◌∷◌, ◌++◌, ℕ, ℤ, pos, negsuc, take, drop}
 use Rattle.ints.specs.Table.{tab, all}
 use Rattle.ints.specs.Turn.{in_order}
 use Rattle.numbers.specs.Bytes.{lowest_first, bytes_of, encoded}
@@ -65,7 +65,7 @@ given participants price row transaction room =
 abbrev row : ℤ → ℤ → ℤ → ℤ → ℤ → ℤ → List ℤ
 row m kind k p l kw = m ∷ kind ∷ k ∷ p ∷ l ∷ kw ∷ []
 
--- a row, and a transaction, that has nothing wrong with it; one of no market; and one of too many k_w
+-- a row, and a transaction, that has nothing wrong with it; one of no market; and one of too many kW
 abbrev good : List ℤ
 good = row (pos 1) (pos 0) (pos 11) (pos 1) (pos 0) (pos 600)
 

@@ -3,7 +3,6 @@ use Rattle.std.specs.Prelude.{◌≡◌, refl, List, [], ◌∷◌, ◌++◌, �
 use Rattle.ints.specs.Table.{tab}
 use Rattle.hour.specs.Hour.{Hour}
 use Rattle.hour.specs.declared.Edition.{Edition}
-use Rattle.hour.specs.declared.Edition.TheVariants as Edition
 use Rattle.exercise.specs.CasesFile.{times, statement}
 use Rattle.exercise.specs.File.{header, places_of, hour_of}
 use Rattle.exercise.specs.Packed.{bytes_at}
@@ -39,7 +38,7 @@ again : file_of (hour_of statement) ≡ statement
 unfolding header bytes_at places_of bytes_high run tab
 again = refl
 
--- 3 participants, prices of both signs at their limits, both markets, the last interval, the most k_w, and a transaction
+-- 3 participants, prices of both signs at their limits, both markets, the last interval, the most kW, and a transaction
 abbrev pub mixed : Hour
 mixed =
     record {

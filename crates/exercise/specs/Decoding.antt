@@ -10,9 +10,7 @@ use Rattle.exercise.specs.Layout.{row_size, transaction_size}
 use Rattle.exercise.specs.File.{row_at, transaction_at}
 use Rattle.exercise.specs.Order.{row_refusal_at, transaction_refusal_at}
 use Rattle.exercise.specs.declared.DecodedRow.{DecodedRow}
-use Rattle.exercise.specs.declared.DecodedRow.TheVariants as DecodedRow
 use Rattle.exercise.specs.declared.DecodedTransaction.{DecodedTransaction}
-use Rattle.exercise.specs.declared.DecodedTransaction.TheVariants as DecodedTransaction
 
 -- ---- the answers, and the number of each case: 0 for a row, and else its refusal
 

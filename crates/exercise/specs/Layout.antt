@@ -3,7 +3,6 @@
 use Rattle.std.specs.Prelude.{List, [], ◌∷◌, ℕ, ◌/◌, eqb}
 use Rattle.ints.specs.Refusal.{pick}
 use Rattle.hour.specs.declared.Edition.{Edition}
-use Rattle.hour.specs.declared.Edition.TheVariants as Edition
 use Rattle.exercise.specs.Packed.{bits_in}
 
 -- ---- the widths
@@ -21,7 +20,7 @@ abbrev pub row_widths : List ℕ
 row_widths = 1 ∷ 3 ∷ 4 ∷ 6 ∷ 6 ∷ 25 ∷ 3 ∷ []
 
 -- "Transaction, 48 bits: market (1), interval (4), participant (6), source (6), sink (6), kW (25)". Edition "1 has the seller (6 bits) after the participant and two spare bits
--- at the end, 56 bits"; in edition 0 these two have no bits. Market, interval, participant, seller, source, sink, k_w, spare:
+-- at the end, 56 bits"; in edition 0 these two have no bits. Market, interval, participant, seller, source, sink, kW, spare:
 abbrev pub transaction_widths : Edition → List ℕ
 transaction_widths Edition.PathOnly = 1 ∷ 4 ∷ 6 ∷ 0 ∷ 6 ∷ 6 ∷ 25 ∷ 0 ∷ []
 transaction_widths Edition.WithSeller = 1 ∷ 4 ∷ 6 ∷ 6 ∷ 6 ∷ 6 ∷ 25 ∷ 2 ∷ []

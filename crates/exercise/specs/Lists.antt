@@ -10,7 +10,6 @@ use Rattle.numbers.specs.Bytes.{number_at, encoded}
 use Rattle.hour.specs.Hour.{Hour, all_prices}
 use Rattle.hour.specs.Order.{Spare, content_refusal}
 use Rattle.hour.specs.declared.Edition.{Edition}
-use Rattle.hour.specs.declared.Edition.TheVariants as Edition
 use Rattle.hour.specs.declared.Row.{Row}
 use Rattle.hour.specs.declared.Transaction.{Transaction}
 use Rattle.exercise.specs.Decoding.{count_of}
@@ -46,7 +45,7 @@ prices_given list j n = tab (λ i. number_at list (j + i)) n
 abbrev pub given_at : List ℕ → ℕ → ℕ
 given_at list k = bits_of 64 (number_at list k)
 
--- row i of a list, six numbers each: market, kind, interval, participant, location, k_w
+-- row i of a list, six numbers each: market, kind, interval, participant, location, kW
 abbrev pub row_given : List ℕ → ℕ → Row
 row_given list i =
     record {
@@ -63,7 +62,7 @@ abbrev pub transaction_length : Edition → ℕ
 transaction_length Edition.PathOnly = 6
 transaction_length Edition.WithSeller = 7
 
--- transaction i, six numbers each: market, interval, participant, source, sink, k_w; with a seller seven, "the seller after the participant"
+-- transaction i, six numbers each: market, interval, participant, source, sink, kW; with a seller seven, "the seller after the participant"
 abbrev pub transaction_given : Edition → List ℕ → ℕ → Transaction
 transaction_given Edition.PathOnly list i =
     record {

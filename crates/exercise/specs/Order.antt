@@ -1,7 +1,7 @@
 -- The order of refusals of an exercise file and of an hour read from it (document 01, "The exercise file"):
 -- "Order for an hour: 9 under 5 bytes; 9 header spare; 1 counts; 9 length; 1 output lists not as long as the participants; 2 prices; rows in turn (4; 3 participant,
 -- location; 2; 9); transactions in turn (4; 3 participant, source, sink; 2); 10; 7." Document 02, ticket 2: "9 for any other edition; seller 3, after the participant; spare
--- bits 9, after the k_w"; the edition stands in the place of the header's spare bits. Assumes nothing.
+-- bits 9, after the kW"; the edition stands in the place of the header's spare bits. Assumes nothing.
 use Rattle.std.specs.Prelude.{List, ℕ, ◌*◌, leb, eqb, length}
 use Rattle.ints.specs.Refusal.{unless}
 use Rattle.ints.specs.Turn.{◌then◌}

@@ -1,8 +1,10 @@
 // What is read from an exercise file (document 01, "The exercise file"). What its bytes mean is in specs/; crates `exercise_..` read them.
+#![tactic(auto)]
+
 use hour::{Row, Transaction};
 
 // The counts of the header, and the number of its edition.
-#[derive(Drop)]
+#[derive(Clone, Copy)]
 pub struct Header {
     pub participants: usize,
     pub locations: usize,
@@ -12,7 +14,7 @@ pub struct Header {
 }
 
 // Where prices, rows and transactions start, and where the file ends.
-#[derive(Drop)]
+#[derive(Clone, Copy)]
 pub struct Places {
     pub prices: usize,
     pub rows: usize,
@@ -21,14 +23,14 @@ pub struct Places {
 }
 
 // A row, or the number of its refusal.
-#[derive(Drop)]
+#[derive(Clone, Copy)]
 pub enum DecodedRow {
     Decoded(Row),
     Refused(u32),
 }
 
 // A transaction, or the number of its refusal.
-#[derive(Drop)]
+#[derive(Clone, Copy)]
 pub enum DecodedTransaction {
     Decoded(Transaction),
     Refused(u32),

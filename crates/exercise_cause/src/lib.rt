@@ -1,4 +1,6 @@
 // Why an exercise file is refused, up to its last transaction.
+#![tactic(auto)]
+
 ghost use Rattle.std.specs.Prelude.{◌≡◌, ◌+◌, ◌*◌, ◌≤◌, length};
 ghost use Rattle.hour.specs.Cause.{price_cause, row_cause, transaction_cause, content_cause};
 ghost use Rattle.hour.specs.InsideCause.{first_from};
@@ -172,7 +174,9 @@ fn first_cause(
 
 // ---- all of it
 
-// From the prices to the last transaction, of a file that passes the order to its length.
+// From the prices to the last transaction, of a file that passes the order to its length. It stays a call, so that what it needs of the stack is given back before
+// its caller adds the hour up.
+#[inline(never)]
 pub fn content_cause(file: &[u8]) -> Cause
     requires { frame_refusal file.now ≡ 0 }
     ensures { result ≡ content_cause (hour_of file.now) (spare_of file.now) }

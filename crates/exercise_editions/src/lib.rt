@@ -1,4 +1,6 @@
 // The editions of the exercise file (document 02, ticket 2): which one a number names, and how many bytes, and numbers in a list, a transaction of it has.
+#![tactic(auto)]
+
 ghost use Rattle.std.specs.Prelude.{◌≡◌, ◌≤◌};
 ghost use Rattle.exercise.specs.Inside.{item_size, item_length};
 ghost use Rattle.exercise.specs.Layout.{transaction_size, edition_of};

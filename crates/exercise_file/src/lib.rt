@@ -1,4 +1,6 @@
 // The exercise file (document 01, "The exercise file"): its header, its check and its reader.
+#![tactic(auto)]
+
 ghost use Rattle.std.specs.Prelude.{◌≡◌, ◌+◌, ◌*◌, ◌≤◌, ◌<◌, length};
 ghost use Rattle.exercise.specs.Packed.{bytes_at};
 ghost use Rattle.exercise.specs.File.{header_of, header, places_of, hour_of};

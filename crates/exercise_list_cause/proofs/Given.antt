@@ -10,7 +10,6 @@ use Rattle.hour.specs.Hour.{Hour}
 use Rattle.hour.specs.InsideCause.{first_from}
 use Rattle.hour.specs.declared.Cause.{Cause}
 use Rattle.hour.specs.declared.Edition.{Edition}
-use Rattle.hour.specs.declared.Edition.TheVariants as Edition
 use Rattle.hour.proofs.Causes.{cause-tab}
 use Rattle.exercise.specs.Layout.{edition_of}
 use Rattle.exercise.specs.Lists.{content, row_given, transaction_given, hour_given, no_spare}

@@ -1,4 +1,6 @@
 // Why an hour in lists of numbers, eight bytes a number, is refused.
+#![tactic(auto)]
+
 ghost use Rattle.std.specs.Prelude.{◌≡◌, ◌+◌, ◌*◌, ◌≤◌, pos, length};
 ghost use Rattle.numbers.specs.Bytes.{number_at};
 ghost use Rattle.hour.specs.Cause.{price_cause, row_cause, transaction_cause, content_cause};

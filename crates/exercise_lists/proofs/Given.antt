@@ -13,7 +13,6 @@ use Rattle.numbers.specs.Bytes.{number_at}
 use Rattle.hour.specs.Hour.{Hour}
 use Rattle.hour.specs.Order.{is_price, row_refusal, packed_row_refusal, transaction_refusal, packed_transaction_refusal, prices_refusal, rows_refusal, transactions_refusal, content_refusal}
 use Rattle.hour.specs.declared.Edition.{Edition}
-use Rattle.hour.specs.declared.Edition.TheVariants as Edition
 use Rattle.hour.specs.declared.Row.{Row}
 use Rattle.hour.specs.declared.Transaction.{Transaction}
 use Rattle.exercise.specs.Inside.{price_refusal}

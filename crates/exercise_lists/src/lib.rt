@@ -1,4 +1,6 @@
 // What is refused of an hour in lists of numbers, eight bytes a number (document 02, tickets 1 and 2).
+#![tactic(auto)]
+
 ghost use Rattle.std.specs.Prelude.{◌≡◌, ◌+◌, ◌*◌, ◌≤◌, pos, length};
 ghost use Rattle.ints.specs.Turn.{in_turn};
 ghost use Rattle.hour.specs.Order.{content_refusal, row_refusal, transaction_refusal};

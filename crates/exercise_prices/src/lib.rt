@@ -1,4 +1,6 @@
 // The prices of the exercise file (document 01, "The exercise file"): read and tested.
+#![tactic(auto)]
+
 ghost use Rattle.std.specs.Prelude.{◌≡◌, ◌+◌, ◌*◌, ◌≤◌, ◌<◌, length};
 ghost use Rattle.ints.specs.InsideRange.{Within};
 ghost use Rattle.ints.specs.Twos.{twos};

@@ -14,7 +14,6 @@ use Rattle.exercise.specs.File.{row_at}
 use Rattle.exercise.specs.Layout.{row_size}
 use Rattle.exercise.specs.Order.{row_refusal_at}
 use Rattle.exercise.specs.declared.DecodedRow.{DecodedRow}
-use Rattle.exercise.specs.declared.DecodedRow.TheVariants as DecodedRow
 use Rattle.hour.specs.declared.Row.{Row}
 use Rattle.exercise.proofs.Answers.{row_inside, row_apart}
 use Rattle.exercise_probe.specs.Inside.{probe_refusal}

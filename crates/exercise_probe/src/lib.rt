@@ -1,4 +1,6 @@
 // What the tests see of the engine beneath its C interface: decoding one row, the check of a file and the reader of its rows.
+#![tactic(auto)]
+
 ghost use Rattle.std.specs.Prelude.{◌≡◌, length};
 ghost use Rattle.exercise.specs.Order.{file_refusal};
 ghost use Rattle.exercise.specs.Reader.{stretch};

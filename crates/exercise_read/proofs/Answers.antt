@@ -4,7 +4,6 @@ use mathlib.Core.Bool.{true, false}
 use mathlib.Core.List.{List}
 use Prim.Native.Nat.{ℕ, ◌*◌}
 use Rattle.ints.specs.Table.{tab}
-use Rattle.ints.specs.Turn.{◌then◌}
 use Rattle.ints.proofs.Turns.{then-ends, then-later}
 use Rattle.numbers.specs.Bytes.{encoded}
 use Rattle.hour.specs.Order.{content_refusal}

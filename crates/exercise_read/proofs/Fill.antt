@@ -16,7 +16,6 @@ use Rattle.ints.specs.Table.{tab}
 use Rattle.numbers.specs.Bytes.{encoded}
 use Rattle.numbers.proofs.Laws.{length-encoded, encoded-append}
 use Rattle.hour.specs.declared.Edition.{Edition}
-use Rattle.hour.specs.declared.Edition.TheVariants as Edition
 use Rattle.exercise.specs.File.{row_at, rows_in, transaction_at, transactions_in}
 use Rattle.exercise.specs.Inside.{item_length}
 use Rattle.exercise.specs.Lists.{row_numbers, transaction_numbers, in_turns}

@@ -1,4 +1,6 @@
 // An exercise file read as lists of numbers, eight bytes a number (document 02, tickets 1 and 2).
+#![tactic(auto)]
+
 ghost use Rattle.std.specs.Prelude.{◌≡◌, ◌+◌, ◌*◌, ◌≤◌, length};
 ghost use Rattle.ints.specs.Refusal.{lent};
 ghost use Rattle.ints.specs.Table.{tab};

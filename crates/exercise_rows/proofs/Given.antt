@@ -20,7 +20,6 @@ use Rattle.exercise.specs.Decoding.{given_refusal, decoded_row_refusal}
 use Rattle.exercise.specs.File.{row_at, packed_transaction, transaction_of, transaction_spare}
 use Rattle.exercise.specs.Order.{transaction_refusal_at}
 use Rattle.exercise.specs.declared.DecodedRow.{DecodedRow}
-use Rattle.exercise.specs.declared.DecodedRow.TheVariants as DecodedRow
 use Rattle.exercise_rows.specs.Inside.{refusal_at, alone_refusal}
 use Rattle.exercise.specs.Inside.{item_size, decoded_row_at}
 

@@ -1,5 +1,7 @@
 // The rows and transactions of the exercise file (document 01, "The exercise file"), six packed bytes each, and transactions with a seller seven: decoded, one by one and in
 // turn.
+#![tactic(auto)]
+
 ghost use Rattle.std.specs.Prelude.{◌≡◌, ◌+◌, ◌*◌, ◌≤◌, ◌<◌, length};
 ghost use Rattle.ints.specs.Turn.{in_turn};
 ghost use Rattle.exercise.specs.Packed.{bytes_at};

@@ -24,7 +24,6 @@ use Rattle.numbers.specs.Bytes.{number_at}
 use Rattle.hour.specs.Hour.{Hour}
 use Rattle.hour.specs.Order.{content_refusal}
 use Rattle.hour.specs.declared.Edition.{Edition}
-use Rattle.hour.specs.declared.Edition.TheVariants as Edition
 use Rattle.exercise.specs.Inside.{header_bits, item_size}
 use Rattle.exercise.specs.Layout.{transaction_size, edition_of}
 use Rattle.exercise.specs.Lists.{Content, content, row_given, transaction_length, transaction_given, hour_given, counts_refusal, lists_refusal, no_spare, write_refusal, write_outcome}

@@ -1,4 +1,6 @@
 // The exercise file, written from lists of numbers, eight bytes a number (document 02, tickets 1 and 2).
+#![tactic(auto)]
+
 ghost use Rattle.std.specs.Prelude.{◌≡◌, ◌+◌, ◌*◌, ◌≤◌, pos, length};
 ghost use Rattle.std.proofs.lemmas.List.Edits.{sets};
 ghost use Rattle.ints.specs.Table.{tab};

@@ -13,7 +13,7 @@ use Rattle.ints.specs.InsideEvery.{to_owner, owed}
 use Rattle.ints.specs.InsideRange.{Within}
 use Rattle.ints.specs.Sum.{Σℤ, sum_to, only}
 use Rattle.ints.proofs.Adding.{owed_none, only-within}
-use Rattle.ints.proofs.Diff.{◌⊖◌, ⊖-laws, ⊖-eq, ind3, *ℤ-negl}
+use Rattle.ints.proofs.Diff.{⊖-laws, ⊖-eq, ind3, *ℤ-negl}
 use Rattle.ints.proofs.Gather.{every_map, every_of, every_append, Σ-ext-on, Σ-map, swap, one_place}
 use Rattle.ints.proofs.Sizes.{w-add, w-sub, w-mul, w-neg, w-lit, w-up}
 use Rattle.ints.proofs.Sums.{Σ-append, Σ-plus, Σ-ext, Σ-zero, sum_to-plus}
@@ -21,7 +21,6 @@ use Rattle.hour.specs.Hour.{Prices, Position, purchase_of, sale_of, legs}
 use Rattle.hour.specs.InsideParts.{sign, weight, position_part, transaction_part, position_parts, transaction_parts, PositionPlaced, buyer_part, seller_part, adds_to}
 use Rattle.hour.specs.InsideTested.{TransactionTested}
 use Rattle.hour.specs.declared.Edition.{Edition}
-use Rattle.hour.specs.declared.Edition.TheVariants as Edition
 use Rattle.hour.specs.declared.Transaction.{Transaction}
 
 -- ---- one transaction

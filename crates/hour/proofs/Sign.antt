@@ -28,7 +28,7 @@ odd (suc (suc (suc (suc zero)))) h e = absurd (e refl)
 odd (suc (suc (suc (suc (suc zero))))) h e = refl
 odd (suc (suc (suc (suc (suc (suc n)))))) h e = absurd (omega arith)
 
--- k_w with the sign of what is withdrawn less what is injected
+-- kW with the sign of what is withdrawn less what is injected
 module _ (kind n : ℕ) (h : kind < 6) where
   pub withdrawn : kind % 2 ≡ 0 → pos n ≡ sign (withdraws kind) *ℤ pos n
   withdrawn e = ap pos (sym (one-mul n)) ∙ ap (λ (b : Bool). sign b *ℤ pos n) (sym (even kind h e))

@@ -20,7 +20,7 @@ use Rattle.hour.specs.Hour.{Prices, Position}
 use Rattle.hour.proofs.Forms.{ahead-form, real-form, path-form}
 use Rattle.hour.proofs.Terms.{factor, by-market, apart, hours}
 
--- ---- positions: withdrawn less injected is the sum of signed k_w
+-- ---- positions: withdrawn less injected is the sum of signed kW
 
 signed-one : (w t : Bool) (n : ℕ) → only (w && t) (pos n) -ℤ only (not w && t) (pos n) ≡ only t (sign w *ℤ pos n)
 signed-one true true n = ap pos (omega arith)
@@ -28,7 +28,7 @@ signed-one false true n = +ℤ_idl (neg_ℤ (pos n)) ∙ ap (λ (n : ℕ). neg_�
 signed-one true false n = refl
 signed-one false false n = refl
 
--- a position's signed k_w
+-- a position's signed kW
 abbrev signed : Position → ℤ
 signed x = sign x.withdrawal *ℤ pos x.kw
 
@@ -37,7 +37,7 @@ module _ (xs : List Position) (p : ℕ) where
   abbrev stands : ℕ → ℕ → ℕ → Position → Bool
   stands m k l x = own_position m k p x && eqb x.location l
 
-  -- their signed k_w
+  -- their signed kW
   abbrev net : ℕ → ℕ → ℕ → ℤ
   net m k l = Σℤ (λ x. only (stands m k l x) (signed x)) xs
 
@@ -93,7 +93,7 @@ module _ (prices : Prices) (xs : List Position) (p : ℕ) where
 -- ---- transactions
 
 module _ (prices : Prices) (transactions : List Transaction) (p : ℕ) where
-  -- which transactions are of a path, and their k_w
+  -- which transactions are of a path, and their kW
   abbrev on : ℕ → ℕ → ℕ → ℕ → Transaction → Bool
   on m k i j t = own_transaction m k p t && eqb t.source i && eqb t.sink j
 

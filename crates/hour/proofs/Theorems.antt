@@ -30,7 +30,6 @@ use Rattle.hour.specs.InsideTotals.{most_cents, most_net, shares_most, hour_most
 use Rattle.hour.specs.Order.{surplus_refusal}
 use Rattle.hour.specs.Surplus.{surplus, is_share, share_kw, share_of, shares, credits, nets}
 use Rattle.hour.specs.declared.Edition.{Edition}
-use Rattle.hour.specs.declared.Edition.TheVariants as Edition
 use Rattle.hour.specs.declared.Row.{Row}
 use Rattle.hour.specs.declared.Transaction.{Transaction}
 use Rattle.hour.proofs.Additive.{positions-both, paths-both, charge-both}
@@ -230,7 +229,7 @@ module _ (prices : Prices) (in-ahead : InRange prices.ahead 5000000) (in-real : 
       let of-transactions = Σ-within (λ t. adds_to edition (weight prices) t p) 4800000000000000 (λ t q. adds-within (weight prices) weight-within edition t q.kw p) transactions e in
       subst (λ (z : ℤ). Within z hour_most) (parts-charge participants edition prices rows transactions p d e) (w-up (w-add of-rows of-transactions) (omega arith))
 
--- a share grows by at most 20,000,000 k_w
+-- a share grows by at most 20,000,000 kW
 pub share-range : (r : Row) → r.kw.0 ≤ 20000000 → Within (share_kw r) 20000000
 share-range r h = only-within (is_share r.market r.kind) (record { within = h })
 
@@ -244,7 +243,7 @@ module _ (hour : Hour) (s : Sound hour) where
   pub loss-within : (p : ℕ) → Within (exact_loss_of hour p) hour_most
   loss-within p = charge-within (loss_prices hour) s.loss-ahead s.loss-real hour.participants hour.edition hour.rows hour.transactions p s.few-rows s.few-transactions s.each_row s.each-transaction
 
-  -- a participant's share: at most 40,960,000,000 k_w
+  -- a participant's share: at most 40,960,000,000 kW
   pub share-within : (p : ℕ) → Within (share_of hour p) shares_most
   unfolding owed
   share-within p = w-up (owed-within (λ r. r.participant) share_kw 20000000 (λ r t. share-range r t.kw) hour.rows s.each_row p) (omega (arith, s.few-rows))

@@ -1,4 +1,4 @@
--- The table that rows and transactions are weighed by is what a k_w counts. Assumes nothing.
+-- The table that rows and transactions are weighed by is what a kW counts. Assumes nothing.
 use mathlib.Core.Path.{◌≡◌, refl, sym, ap, ap₂, ◌∙◌, subst}
 use mathlib.Core.Logic.{inl, inr}
 use mathlib.Core.Bool.{Bool, true, false}
@@ -59,7 +59,7 @@ module _ (n : ℕ) (list : List ℤ) where
       let place : (k + 1) * n + l ≡ n + (k * n + l) = omega (arith, suc-mul k n) in
       ap (λ (i : ℕ). weighed n list at i) place ∙ weighed-back (k * n + l) ∙ ap (λ (i : ℕ). list at i) (sym place)
 
-  -- it is what a k_w counts there
+  -- it is what a kW counts there
   pub weighed-is : (market interval l : ℕ) → Timed market interval → l < n → weight_in (weighed n list) n market interval l ≡ weight (listed_prices n list) market interval l
   weighed-is market interval l (inl t) m =
       let stage : market + interval ≡ 0 = omega (arith, t) in

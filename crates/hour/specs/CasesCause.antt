@@ -1,5 +1,5 @@
 -- Why a price, a row, a transaction, a surplus or a share is refused, worked: at each field, and where several numbers are outside their ranges. Assumes nothing.
-use Rattle.std.specs.Prelude.{◌≡◌, refl, List, [], ◌∷◌, ℕ, ◌*◌, ℤ, pos, negsuc, neg_ℤ}
+use Rattle.std.specs.Prelude.{◌≡◌, refl, [], ◌∷◌, ℕ, ◌*◌, pos, negsuc, neg_ℤ}
 use Rattle.ints.specs.Sum.{sum_nat}
 use Rattle.split.specs.Split.{total}
 use Rattle.hour.specs.Cause.{of_price, of_row, of_transaction, of_surplus, of_share, cause, no_cause, tested, first_cause, price_cause, row_cause, rows_cause, transaction_cause, unshared_cause, surplus_cause}
@@ -7,7 +7,6 @@ use Rattle.hour.specs.Hour.{day_ahead, real_time, load, decrement_bid, increment
 use Rattle.hour.specs.declared.Cause.{Cause}
 use Rattle.hour.specs.declared.Row.{Row}
 use Rattle.hour.specs.declared.Edition.TheVariants as Edition
-use Rattle.hour.specs.declared.Transaction.{Transaction}
 
 -- ---- row 7 of 2 participants and 3 locations
 
@@ -123,7 +122,7 @@ pub price-cases : PriceCases
 unfolding first_cause tested
 price-cases = record { largest = refl; above = refl; below = refl }
 
--- ---- a surplus in cents, over shares in k_w
+-- ---- a surplus in cents, over shares in kW
 
 pub record SurplusCases : Type 0 where
   pub taken : surplus_cause (neg_ℤ (pos 1000000000)) (pos 4000000000 ∷ pos 0 ∷ []) ≡ no_cause

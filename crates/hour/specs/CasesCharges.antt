@@ -140,22 +140,22 @@ statement-parts = refl
 abbrev rising : Prices
 rising = price_list 1 (pos 0 ∷ []) (pos 1 ∷ pos 2 ∷ pos 3 ∷ pos 4 ∷ pos 5 ∷ pos 6 ∷ pos 7 ∷ pos 8 ∷ pos 9 ∷ pos 10 ∷ pos 11 ∷ pos 12 ∷ [])
 
--- 10 k_w of load day-ahead and no real-time row: taken back in every interval, 10 by 78
+-- 10 kW of load day-ahead and no real-time row: taken back in every interval, 10 by 78
 no-real-time-row : charge rising (row 0 0 0 0 0 10 ∷ []) [] 0 ≡ neg_ℤ (pos 780)
 unfolding charge position_charge path_charge ahead_at real_at ahead_path real_path Σℤ sum_to
 no-real-time-row = refl
 
--- 10 k_w of generation: paid in every interval
+-- 10 kW of generation: paid in every interval
 no-real-time-injection : charge rising (row 0 1 0 0 0 10 ∷ []) [] 0 ≡ pos 780
 unfolding charge position_charge path_charge ahead_at real_at ahead_path real_path Σℤ sum_to
 no-real-time-injection = refl
 
--- 1 k_w in interval 0: a twelfth, which no price over 12 in whole mills gives
+-- 1 kW in interval 0: a twelfth, which no price over 12 in whole mills gives
 one-twelfth : charge rising (row 1 0 0 0 0 1 ∷ []) [] 0 ≡ pos 1
 unfolding charge position_charge path_charge ahead_at real_at ahead_path real_path Σℤ sum_to
 one-twelfth = refl
 
--- two rows alike, 10 k_w each in interval 2, whose price is 3 mills
+-- two rows alike, 10 kW each in interval 2, whose price is 3 mills
 rows_alike : charge rising (row 1 0 2 0 0 10 ∷ row 1 0 2 0 0 10 ∷ []) [] 0 ≡ pos 60
 unfolding charge position_charge path_charge ahead_at real_at ahead_path real_path Σℤ sum_to
 rows_alike = refl
@@ -170,7 +170,7 @@ rows-of-another = refl
 abbrev stretches : Prices
 stretches = price_list 2 (pos 0 ∷ pos 0 ∷ []) (each (λ k. pos (100 * k) ∷ pos (100 * k + 1) ∷ []))
 
--- 1 k_w of load in interval 7 at location 1, and at location 0
+-- 1 kW of load in interval 7 at location 1, and at location 0
 interval-7 : charge stretches (row 1 0 7 0 1 1 ∷ []) [] 0 ≡ pos 701
 unfolding charge position_charge path_charge ahead_at real_at ahead_path real_path Σℤ sum_to
 interval-7 = refl
@@ -179,7 +179,7 @@ interval-7-at-0 : charge stretches (row 1 0 7 0 0 1 ∷ []) [] 0 ≡ pos 700
 unfolding charge position_charge path_charge ahead_at real_at ahead_path real_path Σℤ sum_to
 interval-7-at-0 = refl
 
--- 1 k_w of load day-ahead at location 1 and no real-time row: 100 by 0 + 1 + .. + 11, and 12 by 1, taken back
+-- 1 kW of load day-ahead at location 1 and no real-time row: 100 by 0 + 1 + .. + 11, and 12 by 1, taken back
 every-interval : charge stretches (row 0 0 0 0 1 1 ∷ []) [] 0 ≡ neg_ℤ (pos 6612)
 unfolding charge position_charge path_charge ahead_at real_at ahead_path real_path Σℤ sum_to
 every-interval = refl
@@ -188,7 +188,7 @@ every-interval-parts : position_parts stretches (row 0 0 0 0 1 1 ∷ []) 0 ≡ n
 unfolding owed position_part ahead_weight Σℤ sum_to
 every-interval-parts = refl
 
--- ---- a path from 0 to 1, 100 k_w day-ahead (price 200 higher at the sink), and 150 k_w in interval 3 (150 higher): 12 times 100 by 200, and 50 by 150 charged in
+-- ---- a path from 0 to 1, 100 kW day-ahead (price 200 higher at the sink), and 150 kW in interval 3 (150 higher): 12 times 100 by 200, and 50 by 150 charged in
 -- interval 3, and 100 by 150 paid in the 11 others
 
 abbrev path_prices : Prices
@@ -205,7 +205,7 @@ path-parts : transaction_parts path_prices path 0 ≡ pos 82500
 unfolding owed transaction_part ahead_weight Σℤ sum_to
 path-parts = refl
 
--- two transactions alike, 60 k_w each in interval 3: 20 by 150 charged there, where each alone would be short, beside 240,000 day-ahead and 165,000 paid
+-- two transactions alike, 60 kW each in interval 3: 20 by 150 charged there, where each alone would be short, beside 240,000 day-ahead and 165,000 paid
 transactions-alike : charge path_prices [] (transaction 0 0 0 0 1 100 ∷ transaction 1 3 0 0 1 60 ∷ transaction 1 3 0 0 1 60 ∷ []) 0 ≡ pos 78000
 unfolding charge position_charge path_charge ahead_at real_at ahead_path real_path Σℤ sum_to
 transactions-alike = refl
@@ -215,7 +215,7 @@ way_back : charge path_prices [] (transaction 0 0 0 0 1 100 ∷ transaction 1 3 
 unfolding charge position_charge path_charge ahead_at real_at ahead_path real_path Σℤ sum_to
 way_back = refl
 
--- "the participant's own day-ahead kW": participant 1's 150 k_w in interval 3 are all excess, and participant 0 is short in all 12
+-- "the participant's own day-ahead kW": participant 1's 150 kW in interval 3 are all excess, and participant 0 is short in all 12
 abbrev apart : List Transaction
 apart = transaction 0 0 0 0 1 100 ∷ transaction 1 3 1 0 1 150 ∷ []
 
@@ -232,7 +232,7 @@ circle : charge path_prices [] (transaction 0 0 0 1 1 100 ∷ transaction 1 3 0 
 unfolding charge position_charge path_charge ahead_at real_at ahead_path real_path Σℤ sum_to
 circle = refl
 
--- "It does nothing else": 10 k_w of load in interval 3 at location 1 cost 10 by 250, beside the path's 82,500
+-- "It does nothing else": 10 kW of load in interval 3 at location 1 cost 10 by 250, beside the path's 82,500
 row-beside-path : charge path_prices (row 1 0 3 0 1 10 ∷ []) path 0 ≡ pos 85000
 unfolding charge position_charge path_charge ahead_at real_at ahead_path real_path Σℤ sum_to
 row-beside-path = refl

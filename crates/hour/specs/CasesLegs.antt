@@ -7,7 +7,6 @@ use Rattle.hour.specs.Charges.{A, B, D, E, ahead_at, real_at, ahead_path, real_p
 use Rattle.hour.specs.Hour.{day_ahead, real_time, load, generation, export, decrement_bid, increment_offer, Hour, Position, legs}
 use Rattle.hour.specs.Surplus.{shares}
 use Rattle.hour.specs.declared.Edition.{Edition}
-use Rattle.hour.specs.declared.Edition.TheVariants as Edition
 use Rattle.hour.specs.declared.Row.{Row}
 use Rattle.hour.specs.declared.Transaction.{Transaction}
 
@@ -16,7 +15,7 @@ use Rattle.hour.specs.declared.Transaction.{Transaction}
 abbrev row : ℕ → ℕ → ℕ → ℕ → ℕ → ℕ → Row
 row m kind k p l kw = record { market = m; kind = kind; interval = k; participant = p; location = l; kw = record { 0 = kw } }
 
--- market, interval, buyer, seller, source, sink, k_w
+-- market, interval, buyer, seller, source, sink, kW
 abbrev purchase : ℕ → ℕ → ℕ → ℕ → ℕ → ℕ → ℕ → Transaction
 purchase m k buyer seller source sink kw = record { market = m; interval = k; participant = buyer; seller = seller; source = source; sink = sink; kw = record { 0 = kw } }
 
@@ -60,7 +59,7 @@ pub course-cases : CourseCases
 unfolding charge position_charge path_charge ahead_at real_at ahead_path real_path Σℤ sum_to
 course-cases = record { congestion-ahead = refl; loss-ahead = refl; congestion = refl; loss = refl; seller-congestion = refl; seller-loss = refl }
 
--- ---- two locations: 500 and 900 mills day-ahead, and 100 k + 10 and 100 k + 17 in interval k, which add up to 6,720 and 6,804. A purchase of 7 k_w from location 0 to location 1,
+-- ---- two locations: 500 and 900 mills day-ahead, and 100 k + 10 and 100 k + 17 in interval k, which add up to 6,720 and 6,804. A purchase of 7 kW from location 0 to location 1,
 -- day-ahead and in interval 3
 
 abbrev ahead_prices : List ℤ
@@ -146,7 +145,7 @@ pub leg-cases : LegCases
 unfolding charge position_charge path_charge ahead_at real_at ahead_path real_path Σℤ sum_to
 leg-cases = record { buyer-ahead = refl; seller-ahead = refl; buyer-real = refl; seller-real = refl; path-ahead = refl; path-real = refl; path-seller = refl; of-oneself = refl; circle-buyer = refl; circle-seller = refl; used-up = refl; made = refl }
 
--- ---- a class of three: participant 2 buys of participant 1 in both markets, and participant 1 exports 40 k_w at location 1 in interval 3. Congestion is 1 and 2 mills day-ahead and nothing
+-- ---- a class of three: participant 2 buys of participant 1 in both markets, and participant 1 exports 40 kW at location 1 in interval 3. Congestion is 1 and 2 mills day-ahead and nothing
 -- in real time; loss is as above
 
 abbrev threesome : Hour

@@ -74,7 +74,7 @@ kind-cases = record {
   market-2 = refl;
 }
 
--- 3, before 2: 20,000,001 k_w
+-- 3, before 2: 20,000,001 kW
 abbrev named : ℕ → ℕ → ℕ
 named participant location = row_refusal 2 3 (row real_time load 0 participant location 20000001)
 
@@ -121,7 +121,7 @@ transaction m k p seller source sink kw = record { market = m; interval = k; par
 abbrev path_fits : ℕ → ℕ → ℕ
 path_fits market interval = transaction_refusal 2 3 (transaction market interval 2 0 0 0 0)
 
--- 3, before 2: 20,000,001 k_w
+-- 3, before 2: 20,000,001 kW
 abbrev path_named : ℕ → ℕ → ℕ → ℕ → ℕ
 path_named participant seller source sink = transaction_refusal 2 3 (transaction real_time 0 participant seller source sink 20000001)
 
@@ -170,7 +170,7 @@ path-cases = record {
 
 -- ---- "2 prices; rows in turn (4; 3 participant, location; 2; 9); transactions in turn (4; 3 participant, source, sink; 2)", of 2 participants and 3 locations
 
--- with a price, the first row's k_w, the spare bits beside each row, the second row's kind, the path's sink, and the spare bits beside it
+-- with a price, the first row's kW, the spare bits beside each row, the second row's kind, the path's sink, and the spare bits beside it
 abbrev tried : ℤ → ℕ → ℕ → ℕ → ℕ → ℕ → ℕ
 tried price kw spare kind sink beside =
     content_refusal

@@ -39,7 +39,7 @@ bid = refl
 bid-in-real-time : is_share real_time decrement_bid ≡ false
 bid-in-real-time = refl
 
--- by so many k_w, in whichever interval
+-- by so many kW, in whichever interval
 export-kw : share_kw (record { market = 1; kind = 2; interval = 7; participant = 1; location = 0; kw = record { 0 = 100000 } }) ≡ pos 100000
 export-kw = refl
 
@@ -51,7 +51,7 @@ import-kw = refl
 abbrev row : ℕ → ℕ → ℕ → ℕ → ℕ → ℕ → Row
 row m kind k p l kw = record { market = m; kind = kind; interval = k; participant = p; location = l; kw = record { 0 = kw } }
 
--- 0 draws 200,000 k_w at location 1; 1 feeds 110,000 in at location 0 and exports 100,000 at location 1
+-- 0 draws 200,000 kW at location 1; 1 feeds 110,000 in at location 0 and exports 100,000 at location 1
 abbrev statement : Hour
 statement = record {
   participants = 2;

@@ -1,6 +1,6 @@
 -- The charges of one hour (document 01, "Charges"): congestion by 5.1.3(b)-(d), (f) and 5.1.4A, losses by 5.4.3(b)-(d), (f) and 5.4.4A. Quotes are of 5.1 and of document
 -- 01, "Charges". 5.4 has the same equations with Loss Price for Congestion Price: "Congestion and loss use the same rule with different price lists."
--- A charge is k_w times mills per MWh, kept exactly in twelfths of a millionth of a dollar. At a day-ahead price, which is for the hour, it counts 12 times; at a real-time
+-- A charge is kW times mills per MWh, kept exactly in twelfths of a millionth of a dollar. At a day-ahead price, which is for the hour, it counts 12 times; at a real-time
 -- price once, since there (5.1.1, 5.4.2(c)) "the dollar-per-MW hour value is divided by the number of Real-time Settlement Intervals in the hour". Nothing is rounded
 -- before the end: "A participant's exact total is rounded once". Assumes nothing.
 use Rattle.std.specs.Prelude.{Bool, not, ◌&&◌, List, [], map, ℕ, eqb, ℤ, pos, negsuc, ◌+ℤ◌, ◌-ℤ◌, ◌*ℤ◌}
@@ -20,7 +20,7 @@ P prices l = prices.ahead at l
 abbrev pub C : Prices → ℕ → ℕ → ℤ
 C prices k l = interval_of prices.real prices.locations k at l
 
--- ---- the k_w withdrawn, injected and carried
+-- ---- the kW withdrawn, injected and carried
 
 -- a position, and a transaction, of participant p in market m and interval k. "Day-ahead rows and transactions carry interval 0."
 abbrev pub own_position : ℕ → ℕ → ℕ → Position → Bool
@@ -29,14 +29,14 @@ own_position m k p x = eqb x.participant p && eqb x.market m && eqb x.interval k
 abbrev pub own_transaction : ℕ → ℕ → ℕ → Transaction → Bool
 own_transaction m k p t = eqb t.participant p && eqb t.market m && eqb t.interval k
 
--- the k_w that p withdraws, and injects, at location l. "Rows alike add up."
+-- the kW that p withdraws, and injects, at location l. "Rows alike add up."
 abbrev pub withdrawn : List Position → ℕ → ℕ → ℕ → ℕ → ℤ
 withdrawn xs m k p l = Σℤ (λ x. only (x.withdrawal && (own_position m k p x && eqb x.location l)) (pos x.kw)) xs
 
 abbrev pub injected : List Position → ℕ → ℕ → ℕ → ℕ → ℤ
 injected xs m k p l = Σℤ (λ x. only (not x.withdrawal && (own_position m k p x && eqb x.location l)) (pos x.kw)) xs
 
--- the k_w that p's transactions carry from source to sink
+-- the kW that p's transactions carry from source to sink
 abbrev pub carried : List Transaction → ℕ → ℕ → ℕ → ℕ → ℕ → ℤ
 carried transactions m k p source sink =
     Σℤ (λ t. only (own_transaction m k p t && eqb t.source source && eqb t.sink sink) (pos t.kw.0)) transactions
@@ -77,7 +77,7 @@ real_at prices xs p k l =
 -- ---- 5.1.4A, and 5.4.4A: a path, from a source to a sink. "Source and sink may be equal."
 
 -- (a) "the scheduled amount to be delivered multiplied by the difference between the Day-ahead Congestion Price at the sink point and the Day-ahead Congestion Price
--- at the source point". Document 01: "A transaction (market, interval, participant, source, sink, k_w) costs its k_w times price at sink less price at source"
+-- at the source point". Document 01: "A transaction (market, interval, participant, source, sink, kW) costs its kW times price at sink less price at source"
 unfoldable pub ahead_path : Prices → List Transaction → ℕ → ℕ → ℕ → ℤ
 ahead_path prices transactions p source sink =
     carried transactions day_ahead 0 p source sink *ℤ (P prices sink -ℤ P prices source)
@@ -92,7 +92,7 @@ abbrev pub above : ℤ → ℤ → ℤ
 above x y = positive (x -ℤ y)
 
 -- (b) "real-time MWh in excess of the amounts scheduled for the applicable interval in the Day-ahead Energy Market". Document 01: "in real time only the excess over the
--- participant's own day-ahead k_w of the same path counts, in each interval, and a shortfall is paid back"
+-- participant's own day-ahead kW of the same path counts, in each interval, and a shortfall is paid back"
 abbrev pub excess : List Transaction → ℕ → ℕ → ℕ → ℕ → ℤ
 excess transactions p k source sink = above (carried transactions real_time k p source sink) (carried transactions day_ahead 0 p source sink)
 

@@ -2,7 +2,6 @@
 -- adds up. Assumes nothing.
 use Rattle.std.specs.Prelude.{Bool, true, false, ◌||◌, List, [], ◌∷◌, map, ◌++◌, ℕ, ◌*◌, eqb, ℤ, take, drop}
 use Rattle.hour.specs.declared.Edition.{Edition}
-use Rattle.hour.specs.declared.Edition.TheVariants as Edition
 use Rattle.hour.specs.declared.Row.{Row}
 use Rattle.hour.specs.declared.Transaction.{Transaction}
 
@@ -81,7 +80,7 @@ interval_of prices locations k = take locations (drop (k * locations) prices)
 
 -- ---- positions
 
--- what the tariff adds up: k_w that a participant withdraws, or else injects, at a location, in a market and interval
+-- what the tariff adds up: kW that a participant withdraws, or else injects, at a location, in a market and interval
 pub record Position : Type 0 where
   pub market : ℕ
   pub interval : ℕ

@@ -1,4 +1,4 @@
--- What one position, and one transaction, adds to its participant's charge: k_w times a weight that is computed once a location. The fast form of the charges, which
+-- What one position, and one transaction, adds to its participant's charge: kW times a weight that is computed once a location. The fast form of the charges, which
 -- proofs/Theorem.antt joins to the tariff's. Assumes nothing.
 use Rattle.std.specs.Prelude.{Bool, ◌||◌, List, ◌++◌, ℕ, ◌+◌, ◌*◌, ◌<◌, eqb, take, drop, ℤ, pos, negsuc, neg_ℤ, ◌+ℤ◌, ◌-ℤ◌, ◌*ℤ◌}
 use Rattle.ints.specs.InsideEvery.{keep, to_owner, owed}
@@ -9,7 +9,6 @@ use Rattle.hour.specs.Charges.{P, C}
 use Rattle.hour.specs.Hour.{day_ahead, Prices, price_list, Position}
 use Rattle.hour.specs.InsideTested.{Timed}
 use Rattle.hour.specs.declared.Edition.{Edition}
-use Rattle.hour.specs.declared.Edition.TheVariants as Edition
 use Rattle.hour.specs.declared.Row.{Row}
 use Rattle.hour.specs.declared.Transaction.{Transaction}
 
@@ -17,11 +16,11 @@ use Rattle.hour.specs.declared.Transaction.{Transaction}
 abbrev pub sign : Bool → ℤ
 sign withdrawal = pick withdrawal (pos 1) (negsuc 0)
 
--- a day-ahead k_w at l is priced for the whole hour and taken back in each of the 12 intervals
+-- a day-ahead kW at l is priced for the whole hour and taken back in each of the 12 intervals
 unfoldable pub ahead_weight : Prices → ℕ → ℤ
 ahead_weight prices l = pos 12 *ℤ P prices l -ℤ sum_to (λ k. C prices k l) 12
 
--- what a k_w counts at l, by its market and interval
+-- what a kW counts at l, by its market and interval
 abbrev pub weight : Prices → ℕ → ℕ → ℕ → ℤ
 weight prices market interval l = pick (eqb market day_ahead) (ahead_weight prices l) (C prices interval l)
 
@@ -31,11 +30,11 @@ weight prices market interval l = pick (eqb market day_ahead) (ahead_weight pric
 abbrev pub listed_prices : ℕ → List ℤ → Prices
 listed_prices locations list = price_list locations (take locations list) (drop locations list)
 
--- its table: what a day-ahead k_w counts at each location, in the place of its day-ahead price
+-- its table: what a day-ahead kW counts at each location, in the place of its day-ahead price
 abbrev pub weighed : ℕ → List ℤ → List ℤ
 weighed locations list = tab (ahead_weight (listed_prices locations list)) locations ++ drop locations list
 
--- what a k_w counts by the table. Day-ahead is market 0 and has interval 0, real time is market 1: so one place serves both
+-- what a kW counts by the table. Day-ahead is market 0 and has interval 0, real time is market 1: so one place serves both
 abbrev pub weight_in : List ℤ → ℕ → ℕ → ℕ → ℕ → ℤ
 weight_in table locations market interval l = table at ((market + interval) * locations + l)
 
@@ -49,7 +48,7 @@ unfoldable pub transaction_part : Prices → Transaction → ℤ
 transaction_part prices t =
     pos t.kw.0 *ℤ (weight prices t.market t.interval t.sink -ℤ weight prices t.market t.interval t.source)
 
--- ---- a transaction whole, path and legs, by what a k_w counts in a market and interval at a location
+-- ---- a transaction whole, path and legs, by what a kW counts in a market and interval at a location
 
 -- to its participant. With a seller, what the participant pays for the path at the sink it is paid for what it injects there, so that the source is left
 unfoldable pub buyer_part : Edition → (ℕ → ℕ → ℕ → ℤ) → Transaction → ℤ

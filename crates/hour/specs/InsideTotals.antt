@@ -36,7 +36,7 @@ Natural list = Every (λ z. le_z (pos 0) z ≡ true) list
 
 -- ---- the most that there can be
 
--- of a share: 2,048 rows of at most 20,000,000 k_w each
+-- of a share: 2,048 rows of at most 20,000,000 kW each
 abbrev pub shares_most : ℕ
 shares_most = 40960000000
 

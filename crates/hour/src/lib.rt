@@ -1,4 +1,6 @@
 // An hour's rows and transactions. What they mean, and what an hour comes to, is in specs/; crates `hour_..` work it out.
+#![tactic(auto)]
+
 use units::Kw;
 
 // "a market (day-ahead 0, real time 1)"
@@ -20,7 +22,7 @@ pub const DECREMENT_BID: u8 = 4;
 pub const INCREMENT_OFFER: u8 = 5;
 
 // What a participant withdraws or injects at a location.
-#[derive(Drop)]
+#[derive(Clone, Copy)]
 pub struct Row {
     pub market: u8,
     pub kind: u8,
@@ -31,14 +33,14 @@ pub struct Row {
 }
 
 // The editions of an hour (document 02, ticket 2): a transaction is its path alone, or also a sale, which names its seller.
-#[derive(Drop)]
+#[derive(Clone, Copy)]
 pub enum Edition {
     PathOnly,
     WithSeller,
 }
 
 // What a participant carries from a source to a sink; with a seller, what it buys. Where there is none the seller is 0, and says nothing.
-#[derive(Drop)]
+#[derive(Clone, Copy)]
 pub struct Transaction {
     pub market: u8,
     pub interval: u8,
@@ -50,7 +52,7 @@ pub struct Transaction {
 }
 
 // Why something is refused: which number it is, what stands there, and from where to where it may go (specs/Cause).
-#[derive(Drop)]
+#[derive(Clone, Copy)]
 pub struct Cause {
     pub refusal: u32,
     pub part: u32,

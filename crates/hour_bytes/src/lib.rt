@@ -1,4 +1,6 @@
 // An hour settled, and its four lists written in bytes, eight a number.
+#![tactic(auto)]
+
 ghost use Rattle.std.specs.Prelude.{◌≡◌, ◌/◌, ◌≤◌, true, [], ◌∷◌, length};
 ghost use Rattle.ints.specs.Refusal.{lent};
 ghost use Rattle.numbers.specs.Bytes.{encoded};
@@ -57,26 +59,27 @@ fn settle_into(
     0
 }
 
-// The same with lists that hold zeros and have room: their fronts are used.
-fn settle_lent(
+// ---- lists of its own
+
+// The same with lists for 8 participants.
+fn settle_few(
     file: &[u8],
     congestion: &mut [u8],
     loss: &mut [u8],
     credit: &mut [u8],
     net: &mut [u8],
-    congestion_cents: &mut [i64],
-    loss_cents: &mut [i64],
-    credit_cents: &mut [i64],
-    net_cents: &mut [i64],
 ) -> u32
-    requires congestion_in_bounds { (hourly (length congestion.old) ≤ length congestion_cents.old) × (hourly (length loss.old) ≤ length loss_cents.old) × (hourly (length credit.old) ≤ length credit_cents.old) × (hourly (length net.old) ≤ length net_cents.old) }
-    requires cleared { Cleared congestion_cents.old loss_cents.old credit_cents.old }
+    requires { (hourly (length congestion.old) ≤ 8) × (hourly (length loss.old) ≤ 8) × (hourly (length credit.old) ≤ 8) × (hourly (length net.old) ≤ 8) }
     ensures value { result ≡ hour_refusal in_bytes file.now (length congestion.old ∷ length loss.old ∷ length credit.old ∷ length net.old ∷ []) }
     ensures congestion_after { congestion.new ≡ lent result (encoded (congestion_charges_of (hour_of file.now))) congestion.old }
     ensures loss_after { loss.new ≡ lent result (encoded (loss_charges_of (hour_of file.now))) loss.old }
     ensures credit_after { credit.new ≡ lent result (encoded (credits (hour_of file.now))) credit.old }
     ensures net_after { net.new ≡ lent result (encoded (nets (hour_of file.now))) net.old }
 {
+    let mut congestion_cents = [0i64; 8];
+    let mut loss_cents = [0i64; 8];
+    let mut credit_cents = [0i64; 8];
+    let mut net_cents = [0i64; 8];
     let c = hourly_count(congestion.len());
     let l = hourly_count(loss.len());
     let k = hourly_count(credit.len());
@@ -94,7 +97,42 @@ fn settle_lent(
     )
 }
 
-// An hour settled into slices, with lists of its own: the refusal, or 0. A few participants need not pay for clearing lists of 64.
+// .. and for 64.
+fn settle_many(
+    file: &[u8],
+    congestion: &mut [u8],
+    loss: &mut [u8],
+    credit: &mut [u8],
+    net: &mut [u8],
+) -> u32
+    ensures value { result ≡ hour_refusal in_bytes file.now (length congestion.old ∷ length loss.old ∷ length credit.old ∷ length net.old ∷ []) }
+    ensures congestion_after { congestion.new ≡ lent result (encoded (congestion_charges_of (hour_of file.now))) congestion.old }
+    ensures loss_after { loss.new ≡ lent result (encoded (loss_charges_of (hour_of file.now))) loss.old }
+    ensures credit_after { credit.new ≡ lent result (encoded (credits (hour_of file.now))) credit.old }
+    ensures net_after { net.new ≡ lent result (encoded (nets (hour_of file.now))) net.old }
+{
+    let mut congestion_cents = [0i64; 64];
+    let mut loss_cents = [0i64; 64];
+    let mut credit_cents = [0i64; 64];
+    let mut net_cents = [0i64; 64];
+    let c = hourly_count(congestion.len());
+    let l = hourly_count(loss.len());
+    let k = hourly_count(credit.len());
+    let n = hourly_count(net.len());
+    settle_into(
+        file,
+        congestion,
+        loss,
+        credit,
+        net,
+        &mut congestion_cents[..c],
+        &mut loss_cents[..l],
+        &mut credit_cents[..k],
+        &mut net_cents[..n],
+    )
+}
+
+// An hour settled into slices: the refusal, or 0. A few participants need not pay for clearing lists of 64.
 pub fn settle_bytes(
     file: &[u8],
     congestion: &mut [u8],
@@ -113,35 +151,7 @@ pub fn settle_bytes(
         && holds_few(credit.len())
         && holds_few(net.len())
     {
-        let mut congestion_cents = [0i64; 8];
-        let mut loss_cents = [0i64; 8];
-        let mut credit_cents = [0i64; 8];
-        let mut net_cents = [0i64; 8];
-        return settle_lent(
-            file,
-            congestion,
-            loss,
-            credit,
-            net,
-            &mut congestion_cents,
-            &mut loss_cents,
-            &mut credit_cents,
-            &mut net_cents,
-        );
+        return settle_few(file, congestion, loss, credit, net);
     }
-    let mut congestion_cents = [0i64; 64];
-    let mut loss_cents = [0i64; 64];
-    let mut credit_cents = [0i64; 64];
-    let mut net_cents = [0i64; 64];
-    settle_lent(
-        file,
-        congestion,
-        loss,
-        credit,
-        net,
-        &mut congestion_cents,
-        &mut loss_cents,
-        &mut credit_cents,
-        &mut net_cents,
-    )
+    settle_many(file, congestion, loss, credit, net)
 }

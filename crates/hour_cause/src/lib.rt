@@ -1,4 +1,6 @@
 // Why a price, a row, a transaction or a surplus is refused: the first number that is outside its range, what stands there and what may.
+#![tactic(auto)]
+
 ghost use Rattle.std.specs.Prelude.{◌≡◌, ◌≤◌, length};
 ghost use Rattle.hour.specs.Cause.{no_cause, tested as Cause·tested, below as Cause·below, ◌or◌, first_cause, kinds_of, intervals_of, price_cause, row_cause, transaction_cause, share_cause, unshared_cause, surplus_cause, cause_numbers};
 ghost use Rattle.numbers.specs.Bytes.{encoded};

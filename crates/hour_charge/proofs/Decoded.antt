@@ -5,9 +5,7 @@ use Prim.Native.Nat.{ℕ}
 use Rattle.exercise.specs.File.{row_at, transaction_at}
 use Rattle.hour.specs.InsideTested.{RowTested, TransactionTested}
 use Rattle.exercise.specs.declared.DecodedRow.{DecodedRow}
-use Rattle.exercise.specs.declared.DecodedRow.TheVariants as DecodedRow
 use Rattle.exercise.specs.declared.DecodedTransaction.{DecodedTransaction}
-use Rattle.exercise.specs.declared.DecodedTransaction.TheVariants as DecodedTransaction
 use Rattle.hour.specs.declared.Edition.{Edition}
 use Rattle.hour.specs.declared.Row.{Row}
 use Rattle.hour.specs.declared.Transaction.{Transaction}

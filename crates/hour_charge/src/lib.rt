@@ -1,4 +1,6 @@
 // Charging an hour: the rows and transactions of an exercise file, at its two price lists, to exact totals.
+#![tactic(auto)]
+
 ghost use Rattle.std.specs.Prelude.{◌≡◌, ◌*◌, ◌≤◌, length};
 ghost use Rattle.ints.specs.InsideRange.{InRange};
 ghost use Rattle.ints.specs.Refusal.{lent};

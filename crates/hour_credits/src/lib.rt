@@ -1,4 +1,6 @@
 // From exact charges in twelfths to billed cents (document 01, "Charges" and "Surplus and credits").
+#![tactic(auto)]
+
 ghost use Rattle.std.specs.Prelude.{◌≡◌, length, ◌+ℤ◌, ◌-ℤ◌};
 ghost use Rattle.ints.specs.InsideRange.{Within, InRange};
 ghost use Rattle.ints.specs.Refusal.{lent};

@@ -1,4 +1,6 @@
 // Why an exercise file is refused: all of the order for an hour, surplus and shares too.
+#![tactic(auto)]
+
 ghost use Rattle.std.specs.Prelude.{◌≡◌, ◌≤◌, length};
 ghost use Rattle.ints.specs.Sum.{sum};
 ghost use Rattle.hour.specs.Cause.{surplus_cause, credits_cause};

@@ -1,5 +1,7 @@
 // What is refused of a row, and of a transaction (document 01, "Order for an hour"). Their numbers are wide here, so that those of a file and those that somebody hands
 // over are tested alike.
+#![tactic(auto)]
+
 ghost use Rattle.std.specs.Prelude.{◌≡◌, eqb};
 ghost use Rattle.ints.specs.Refusal.{unless};
 ghost use Rattle.ints.specs.Turn.{◌then◌};

@@ -1,4 +1,6 @@
 // Settling an hour: the exact charges of an exercise file, rounded, and the surplus credited.
+#![tactic(auto)]
+
 ghost use Rattle.std.specs.Prelude.{◌≡◌, [], ◌∷◌, length};
 ghost use Rattle.ints.specs.Refusal.{lent};
 ghost use Rattle.ints.specs.Sum.{sum};

@@ -11,7 +11,6 @@ use Rattle.ints.specs.Table.{◌at◌}
 use Rattle.ints.proofs.Adding.{added, only-within}
 use Rattle.ints.proofs.Sizes.{w-add}
 use Rattle.hour.specs.declared.Edition.{Edition}
-use Rattle.hour.specs.declared.Edition.TheVariants as Edition
 use Rattle.hour.specs.declared.Transaction.{Transaction}
 use Rattle.hour.specs.InsideParts.{buyer_part, seller_part, adds_to}
 use Rattle.hour.proofs.Legs.{only-nothing}

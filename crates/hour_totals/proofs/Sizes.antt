@@ -17,7 +17,7 @@ use Rattle.hour.specs.InsideParts.{sign, weight_in, buyer_part, seller_part}
 use Rattle.hour.proofs.Legs.{buyer-range}
 use Rattle.hour_totals.specs.Inside.{part_in}
 
--- a row's k_w with their sign
+-- a row's kW with their sign
 pub kw-range : {participants locations : ℕ} {r : Row} → RowTested participants locations r → Within (sign (withdraws r.kind) *ℤ pos r.kw.0) 20000000
 kw-range {r = r} t = let kw : Within (pos r.kw.0) 20000000 = record { within = t.kw } in w-up (w-mul (sign-within (withdraws r.kind)) kw) (lit≤ tt)
 

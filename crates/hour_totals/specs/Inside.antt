@@ -2,7 +2,6 @@
 use Rattle.std.specs.Prelude.{List, ℕ, ℤ, pos, ◌+ℤ◌, ◌*ℤ◌, set}
 use Rattle.ints.specs.Table.{◌at◌}
 use Rattle.hour.specs.declared.Edition.{Edition}
-use Rattle.hour.specs.declared.Edition.TheVariants as Edition
 use Rattle.hour.specs.declared.Row.{Row}
 use Rattle.hour.specs.declared.Transaction.{Transaction}
 use Rattle.hour.specs.Hour.{withdraws}
@@ -17,7 +16,7 @@ part_in table locations r =
 abbrev pub plus : List ℤ → ℕ → ℤ → List ℤ
 plus totals p amount = set totals p (totals at p +ℤ amount)
 
--- totals with a transaction's parts, by what a k_w counts: to its participant, and with a seller also to that
+-- totals with a transaction's parts, by what a kW counts: to its participant, and with a seller also to that
 unfoldable pub transaction_added : Edition → (ℕ → ℕ → ℕ → ℤ) → Transaction → List ℤ → List ℤ
 transaction_added Edition.PathOnly counts t totals = plus totals t.participant (buyer_part Edition.PathOnly counts t)
 transaction_added Edition.WithSeller counts t totals =

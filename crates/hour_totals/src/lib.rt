@@ -1,4 +1,6 @@
 // Each participant's running totals: what a row or a transaction adds to them.
+#![tactic(auto)]
+
 ghost use Rattle.std.specs.Prelude.{◌≡◌, ◌≤◌, ◌<◌, pos, ◌+ℤ◌, ◌-ℤ◌, ◌*ℤ◌, length, set};
 ghost use Rattle.std.specs.Int.{w64};
 ghost use Rattle.std.proofs.Common.{SFits};
@@ -18,7 +20,7 @@ use units::{Kw, Mills, NetKw, Twelfths};
 
 // ---- what a row, and a transaction, adds
 
-// A row's k_w: withdrawals (even kinds) are charged, injections (odd kinds) reimbursed. The sign is on the k_w and not on what they come to, so that the compiler can share
+// A row's kW: withdrawals (even kinds) are charged, injections (odd kinds) reimbursed. The sign is on the kW and not on what they come to, so that the compiler can share
 // it between the two price lists.
 fn net_kw(kind: u8, kw: Kw) -> NetKw
     requires { kind < 6 }
@@ -31,7 +33,7 @@ fn net_kw(kind: u8, kw: Kw) -> NetKw
     }
 }
 
-// k_w on a path, at the weight of its sink less that of its source.
+// kW on a path, at the weight of its sink less that of its source.
 fn path_part(kw: Kw, sink: Mills, source: Mills) -> Twelfths
     requires { (kw.0 ≤ 20000000) × Within sink.0 120000000 × Within source.0 120000000 }
     ensures { result.0 ≡ pos kw.0 *ℤ (sink.0 -ℤ source.0) }
@@ -134,7 +136,7 @@ fn is_share(market: u8, kind: u8) -> bool
     }
 }
 
-// The k_w that a row counts as a share.
+// The kW that a row counts as a share.
 fn share_kw(row: Row) -> Kw
     ensures { pos result.0 ≡ share_kw row }
 {
@@ -144,7 +146,7 @@ fn share_kw(row: Row) -> Kw
     Kw(0)
 }
 
-// k_w, added to a participant's share.
+// kW, added to a participant's share.
 fn add_kw(shares: &mut [i64], p: usize, kw: Kw)
     requires { (p < length shares.old) × SFits w64 (shares.old at p +ℤ pos kw.0) }
     ensures { shares.new ≡ set shares.old p (shares.old at p +ℤ pos kw.0) }
@@ -152,7 +154,7 @@ fn add_kw(shares: &mut [i64], p: usize, kw: Kw)
     shares[p] = shares[p] + kw.0 as i64;
 }
 
-// A row's k_w, added to its participant's share where they count.
+// A row's kW, added to its participant's share where they count.
 pub fn add_share(row: Row, shares: &mut [i64])
     requires { (row.participant < length shares.old) × (row.kw.0 ≤ 20000000) × InRange shares.old shares_most }
     ensures { shares.new ≡ set shares.old row.participant (shares.old at row.participant +ℤ share_kw row) }

@@ -20,7 +20,7 @@ use Rattle.hour.specs.Charges.{P, C}
 use Rattle.hour.proofs.Weighed.{taken-range, ahead-at, real-at, same-weight, weighed-range}
 use Rattle.hour_weights.specs.Inside.{Listed, Column, Table}
 
--- ---- of a price list: what a day-ahead k_w counts when the first k intervals are taken back
+-- ---- of a price list: what a day-ahead kW counts when the first k intervals are taken back
 
 abbrev pub sofar : Prices → ℕ → ℕ → ℤ
 sofar prices k l = whole_hour (P prices l) -ℤ sum_to (λ j. C prices j l) k

@@ -1,4 +1,6 @@
-// What a k_w counts: day-ahead its weight for the whole hour, in real time the price of its interval. Both stand in one table, which is made of a price list where it is.
+// What a kW counts: day-ahead its weight for the whole hour, in real time the price of its interval. Both stand in one table, which is made of a price list where it is.
+#![tactic(auto)]
+
 ghost use Rattle.std.specs.Prelude.{◌≡◌, ◌+◌, ◌*◌, ◌≤◌, ◌<◌, length, set};
 ghost use Rattle.ints.specs.InsideRange.{Within};
 ghost use Rattle.ints.specs.Table.{◌at◌};
@@ -31,7 +33,7 @@ pub fn stage_prices(list: &[i32], locations: usize, stage: usize) -> &[i32]
 
 // ---- the table
 
-// What a day-ahead k_w counts at a location: its price for the hour, taken back at the prices of the 12 intervals.
+// What a day-ahead kW counts at a location: its price for the hour, taken back at the prices of the 12 intervals.
 fn ahead_weight(list: &[i32], locations: usize, l: usize) -> Mills
     requires { Column locations l list.now }
     ensures { result.0 ≡ ahead_weight (listed_prices locations list.now) l }
@@ -67,9 +69,9 @@ pub fn weigh(list: &mut [i32], locations: usize)
     }
 }
 
-// ---- a k_w of a market, interval and location
+// ---- a kW of a market, interval and location
 
-// What a k_w counts by the table.
+// What a kW counts by the table.
 pub fn weight_of(locations: usize, table: &[i32], market: u8, interval: u8, location: u16) -> Mills
     requires { Timed market interval × (location < locations) × Table locations table.now }
     ensures { result.0 ≡ weight_in table.now locations market interval location }

@@ -1,4 +1,6 @@
 // A number by its size and its sign; numbers in a range; lists summed, cleared and copied.
+#![tactic(auto)]
+
 ghost use Rattle.std.specs.Prelude.{◌≡◌, ◌&&◌, ◌≤◌, ◌<◌, pos, nat_abs, length};
 ghost use Rattle.ints.specs.Number.{below0, signed, between};
 ghost use Rattle.ints.specs.InsideRange.{Short};

@@ -169,7 +169,7 @@ minus-natural m k h = ap₂ ◌-ℤ◌ (pos-⊖ m) (pos-⊖ k) ∙ both ∙ sym 
     both : m ⊖ 0 -ℤ k ⊖ 0 ≡ (m - k) ⊖ 0
     both = simp ⊖-laws (⊖-eq _ _ _ _ (omega arith))
 
--- what is left of k_w that cover other k_w
+-- what is left of kW that cover other kW
 pub left-ranged : (x y : ℤ) → Ranged x → y ≡ pos (nat_abs y) → le_z y x ≡ true → Ranged (x -ℤ y)
 left-ranged x y r e t = record { natural = is ∙ ap (λ (z : ℤ). pos (nat_abs z)) (sym is); small = omega (arith, ap nat_abs is, r.small) }
   where

@@ -1,4 +1,4 @@
--- Every number of an accepted assignment is k_w in range (document 01, "Units and sizes": "Power is in kW, 0 to 20,000,000"). Assumes nothing.
+-- Every number of an accepted assignment is kW in range (document 01, "Units and sizes": "Power is in kW, 0 to 20,000,000"). Assumes nothing.
 use mathlib.Core.Path.{◌≡◌, sym, ap, ◌∙◌, subst}
 use mathlib.Core.Bool.{Bool}
 use Prim.Native.Nat.{ℕ, ◌*◌, ◌/◌, ◌%◌, ◌<◌}

@@ -42,11 +42,11 @@ part_at amount shares i l = get_or-tab (λ i. signed (below0 amount) (part (nat_
 pub part-within : {amount : ℤ} {shares : List ℤ} → Splittable amount shares → (i : ℕ) → i < length shares → Within (parts amount shares at i) 20000000
 part-within {amount} {shares} s i l = record { within = omega (arith, ap nat_abs (part_at amount shares i l) ∙ size-signed (below0 amount) (part (nat_abs amount) shares i), part-size amount shares (length shares) s.accepted i l, s.ranged.small) }
 
--- k_w are not below 0
+-- kW are not below 0
 pub not-below : {amount : ℤ} {shares : List ℤ} → Splittable amount shares → below0 amount ≡ false
 not-below {amount} s = ap below0 s.ranged.natural ∙ le-ltb (nat_abs amount) 0 (omega arith)
 
--- a part of k_w is k_w
+-- a part of kW is kW
 pub part-natural : {amount : ℤ} {shares : List ℤ} → Splittable amount shares → (i : ℕ) → i < length shares → parts amount shares at i ≡ pos (part (nat_abs amount) shares i)
 part-natural {amount} {shares} s i l =
     part_at amount shares i l ∙ ap (λ (t : Bool). signed t (part (nat_abs amount) shares i)) (not-below s)

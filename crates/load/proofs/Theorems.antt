@@ -1,5 +1,5 @@
 -- What holds of every accepted assignment: `demand-3` at the end, and before it the laws of which it is made: each split is fair, at each bus the load
--- handed out is the load that was there, with metering the buses' loads total the metered load, and nobody's k_w is below zero. Assumes nothing.
+-- handed out is the load that was there, with metering the buses' loads total the metered load, and nobody's kW is below zero. Assumes nothing.
 use mathlib.Core.Path.{◌≡◌, refl, sym, ap, ap₂, ◌∙◌, subst}
 use mathlib.Core.Logic.{◌⊎◌, inl, inr, ⊎_elim}
 use mathlib.Core.Bool.{Bool, true, false}
@@ -143,7 +143,7 @@ module _ (d : LoadGiven) (n : ℕ) (accepts : load_refusal d n ≡ 0) where
         ∙ ap₂ ◌+ℤ◌ contracts-all (⊎_elim kept-all won-all tranche)
         ∙ put_back (bus_load d b) (contracted (buses d) d.area_parts d.contracts b)
 
-    -- ---- nobody's k_w is below zero
+    -- ---- nobody's kW is below zero
 
     pub not-below : (p : ℕ) → p < 64 → below0 (assigned d p b) ≡ false
     not-below p u = sum-not-below (natural-sum given (λ j. nat_abs (given j)) (contract_count d.contracts) contract) (⊎_elim (λ z. kept-natural z p) (λ s. won-natural s p u) tranche)

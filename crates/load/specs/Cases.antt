@@ -40,7 +40,7 @@ pub passes : load_refusal case 192 ≡ 0
 unfolding sum_to sum_nat all all_to tab total cut_down remainder units_left before place part parts contract_at counts_refusal lengths_refusal ranges_refusal identities_refusal areas_refusal meters_refusal contracts_refusal load_refusal
 passes = refl
 
--- ---- "by itself": two contracts of 1 k_w over parts 500,000 and 500,000, both of participant 2. Each one's unit goes to the first bus; split together they would give 1,1.
+-- ---- "by itself": two contracts of 1 kW over parts 500,000 and 500,000, both of participant 2. Each one's unit goes to the first bus; split together they would give 1,1.
 
 abbrev alike : LoadGiven
 alike = load_given (pos 0) (pos 0) (pos 2 ∷ pos 0 ∷ []) [] [] (pos 1) (pos 500000 ∷ pos 500000 ∷ []) (pos 2 ∷ pos 0 ∷ pos 1 ∷ pos 2 ∷ pos 0 ∷ pos 1 ∷ []) (replicate 64 (pos 0))
@@ -76,7 +76,7 @@ pub own-contract : (load_refusal own 192 ≡ 0) × (tab (assigned own 2) 3 ≡ p
 unfolding sum_to sum_nat all all_to tab total cut_down remainder units_left before place part parts contract_at auctioned assignment counts_refusal lengths_refusal ranges_refusal identities_refusal areas_refusal meters_refusal contracts_refusal load_refusal
 own-contract = (refl, refl)
 
--- ---- "participant by participant": the whole list for loads 3,4 and a contract of participant 1 for 1 k_w at the first bus
+-- ---- "participant by participant": the whole list for loads 3,4 and a contract of participant 1 for 1 kW at the first bus
 
 abbrev two_buses : LoadGiven
 two_buses = load_given (pos 0) (pos 0) (pos 3 ∷ pos 4 ∷ []) [] [] (pos 1) (pos 1000000 ∷ pos 0 ∷ []) (pos 1 ∷ pos 0 ∷ pos 1 ∷ []) (replicate 64 (pos 0))

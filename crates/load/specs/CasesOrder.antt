@@ -14,7 +14,7 @@ use Rattle.load.specs.Order.{counts_refusal, lengths_refusal, ranges_refusal, id
 abbrev no_tranche : List ℤ
 no_tranche = replicate 64 (pos 0)
 
--- one bus of 10 k_w
+-- one bus of 10 kW
 abbrev bus : List ℤ
 bus = pos 10 ∷ []
 
@@ -221,22 +221,22 @@ pub record AreaCases : Type 0 where
   pub nothing : totalling (pos 0) (pos 0) ≡ 5
   -- the second of two areas, of which no contract makes use
   pub second-area : load_refusal (load_given (pos 1) (pos 0) bus (neg_ℤ (pos 1) ∷ []) [] (pos 2) (pos 1000000 ∷ pos 999999 ∷ []) [] no_tranche) 64 ≡ 5
-  -- before 7: 1 k_w metered over loads of 0
+  -- before 7: 1 kW metered over loads of 0
   pub before-seven : load_refusal (load_given (pos 1) (pos 0) (pos 0 ∷ []) (pos 1 ∷ []) [] (pos 1) (pos 999999 ∷ []) [] no_tranche) 64 ≡ 5
-  -- before 8: a contract of 10 k_w where there are 9, not metered
+  -- before 8: a contract of 10 kW where there are 9, not metered
   pub before-eight : load_refusal (load_given (pos 0) (pos 0) (pos 9 ∷ []) [] [] (pos 1) (pos 999999 ∷ []) (pos 2 ∷ pos 0 ∷ pos 10 ∷ []) no_tranche) 64 ≡ 5
 
 pub area-cases : AreaCases
 unfolding sum_to sum_nat all all_to tab total cut_down remainder units_left before place part parts contract_at counts_refusal lengths_refusal ranges_refusal identities_refusal areas_refusal meters_refusal contracts_refusal load_refusal
 area-cases = record { short = refl; whole = refl; whole-of-two = refl; over = refl; nothing = refl; second-area = refl; before-seven = refl; before-eight = refl }
 
--- ---- 6, before 7, before 8: the estimator's load is 0, and there is a contract of 10 k_w
+-- ---- 6, before 7, before 8: the estimator's load is 0, and there is a contract of 10 kW
 
 -- metered or not, an import and generation
 abbrev metering : ℤ → ℤ → ℤ → ℕ
 metering metered import generation = load_refusal (load_given metered (pos 0) (pos 0 ∷ []) (import ∷ []) (generation ∷ []) (pos 1) (pos 1000000 ∷ []) (pos 2 ∷ pos 0 ∷ pos 10 ∷ []) no_tranche) 64
 
--- 8 last: metered or not, the estimator's load, the metered load, and a contract's k_w
+-- 8 last: metered or not, the estimator's load, the metered load, and a contract's kW
 abbrev covering : ℤ → ℤ → ℤ → ℤ → ℕ
 covering metered load import kw = load_refusal (load_given metered (pos 0) (load ∷ []) (import ∷ []) [] (pos 1) (pos 1000000 ∷ []) (pos 2 ∷ pos 0 ∷ kw ∷ []) no_tranche) 64
 

@@ -12,7 +12,7 @@ pub record FairLoad (d : LoadGiven) (table : List ℤ) : Type 0 where
   pub metered : is_metered d.metered ≡ true → Fair (metered_load d.imports d.generation) d.loads (bus_loads d.metered d.loads d.imports d.generation)
   -- document 01, where it isn't metered: "estimator loads stand"
   pub unmetered : is_metered d.metered ≡ false → bus_loads d.metered d.loads d.imports d.generation ≡ d.loads
-  -- "for contract load over an area,": each contract's k_w, its area's parts, and its own parts, one for each bus
+  -- "for contract load over an area,": each contract's kW, its area's parts, and its own parts, one for each bus
   pub contract : (j : ℕ) → j < contract_count d.contracts
       → Fair (kw d.contracts j) (parts_of (buses d) d.area_parts (identity (area d.contracts j))) (contract_parts (buses d) d.area_parts d.contracts j)
   -- "and for auction load over its winners;": what remains at a bus, the tranches, and the parts of it, one for each participant
@@ -25,7 +25,7 @@ pub record FairLoad (d : LoadGiven) (table : List ℤ) : Type 0 where
   pub holds : (p b : ℕ) → p < 64 → b < buses d
       → cell (buses d) table p b
       ≡ sum_to (λ j. only (eqb (identity (supplier d.contracts j)) p) (contract_parts (buses d) d.area_parts d.contracts j at b)) (contract_count d.contracts) +ℤ rest_part d b p
-  -- and nobody has less than 0 k_w.
+  -- and nobody has less than 0 kW.
   pub not-below : (p b : ℕ) → p < 64 → b < buses d → below0 (cell (buses d) table p b) ≡ false
   -- "and at each bus the load handed out is the load that was there."
   pub handed_out : (b : ℕ) → b < buses d → sum_to (λ p. cell (buses d) table p b) 64 ≡ bus_load d b

@@ -9,12 +9,12 @@ use Rattle.split.specs.Inside.{Shares}
 use Rattle.load.specs.Load.{identity, supplier, area, kw, contract_count, parts_of, contract_load, contracted, auctioned}
 use Rattle.load.specs.InsideTable.{Cells}
 
--- k_w in range
+-- kW in range
 pub record Ranged (z : ℤ) : Type 0 where
   pub natural : z ≡ pos (nat_abs z)
   pub small : nat_abs z ≤ 20000000
 
--- k_w that can be split over the shares
+-- kW that can be split over the shares
 pub record Splittable (amount : ℤ) (shares : List ℤ) : Type 0 where
   pub accepted : split_refusal amount shares (length shares) ≡ 0
   pub ranged : Ranged amount
@@ -79,7 +79,7 @@ unfoldable pub won_part : ℕ → List ℤ → List ℕ → ℤ → ℕ → ℤ
 won_part distributor won winners remaining p =
     pick (eqb (total won) 0) (only (eqb distributor p) remaining) (sum_to (λ j. only (eqb (get_or winners j 0) p) (parts remaining won at j)) (length won))
 
--- what is contracted leaves such k_w at each of n buses
+-- what is contracted leaves such kW at each of n buses
 pub record Remainings (n : ℕ) (loads contracted : List ℤ) : Type 0 where
   pub loads-there : n ≤ length loads
   pub contracted-there : n ≤ length contracted

@@ -1,4 +1,6 @@
 // What an assignment is, and what holds of it; crate `load_assign` makes it. Here runs only what several of its steps ask for, the parts of an area.
+#![tactic(auto)]
+
 ghost use Rattle.std.specs.Prelude.{◌≡◌, ◌+◌, ◌*◌, ◌≤◌, length};
 ghost use Rattle.load.specs.Load.{parts_of};
 

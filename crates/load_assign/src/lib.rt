@@ -1,4 +1,6 @@
 // Load at the buses: metered load, contracts and tranches handed out to those who supply it.
+#![tactic(auto)]
+
 ghost use Rattle.std.specs.Prelude.{◌≡◌, ◌++◌, ◌*◌, ◌≤◌, pos, length, drop, replicate};
 ghost use Rattle.std.specs.Int.Signed.{le_z};
 ghost use Rattle.ints.specs.Each.{all_to};

@@ -1,4 +1,6 @@
 // An assignment with lists that cross in bytes, eight a number: read from slices, and its result written to one.
+#![tactic(auto)]
+
 ghost use Rattle.std.specs.Prelude.{◌≡◌, true, ◌++◌, ◌+◌, ◌-◌, ◌/◌, ◌%◌, ◌≤◌, length, take, drop};
 ghost use Rattle.ints.specs.Refusal.{lent};
 ghost use Rattle.numbers.specs.Bytes.{numbers, encoded};

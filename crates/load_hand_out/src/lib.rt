@@ -1,4 +1,6 @@
 // Contracts and what remains, handed out over the table of participants and buses.
+#![tactic(auto)]
+
 ghost use Rattle.std.specs.Prelude.{◌≡◌, ◌++◌, ◌+◌, ◌*◌, ◌≤◌, ◌<◌, ltb, eqb, length, get_or, set, drop, nat_abs, ◌+ℤ◌, ◌-ℤ◌};
 ghost use Rattle.ints.specs.InsideRange.{Within};
 ghost use Rattle.ints.specs.Refusal.{lent};
@@ -49,7 +51,7 @@ pub fn split_into(amount: i64, shares: &[i64], made: &mut [i64]) -> u32
     split_amount::split(amount, shares, &mut made[..n])
 }
 
-// k_w split over shares of a known total, into the front of a list.
+// kW split over shares of a known total, into the front of a list.
 fn portion(amount: i64, shares: &[i64], total: u64, made: &mut [i64])
     requires splittable { Splittable amount shares.now × (total ≡ Split·total shares.now) }
     requires shares_in_bounds { length shares.now ≤ length made.old }
@@ -61,7 +63,7 @@ fn portion(amount: i64, shares: &[i64], total: u64, made: &mut [i64])
 
 // ---- Step 2: each contract, by itself.
 
-// A contract's parts, in millionths of its k_w, made in the front of a list and added to its supplier's row and to what is contracted.
+// A contract's parts, in millionths of its kW, made in the front of a list and added to its supplier's row and to what is contracted.
 fn hand_parts(
     supplier: usize,
     kw: i64,

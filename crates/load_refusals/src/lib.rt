@@ -1,4 +1,6 @@
 // What is given for a load, tested in the order of refusals, 1 to 5.
+#![tactic(auto)]
+
 ghost use Rattle.std.specs.Prelude.{◌≡◌, ◌≤◌, ◌<◌, eqb, length, pos};
 ghost use Rattle.ints.specs.Each.{all_to};
 ghost use Rattle.ints.specs.Number.{between};
@@ -67,7 +69,7 @@ fn lengths_refusal(
     0
 }
 
-// Whether every contract's k_w is in range.
+// Whether every contract's kW is in range.
 fn kw_between(contracts: &[i64]) -> bool
     ensures { result ≡ all_to (λ j. between (pos 0) (pos 20000000) (kw contracts.now j)) (contract_count contracts.now) }
 {

@@ -1,4 +1,6 @@
 // A list of numbers in a slice of bytes: eight bytes each, two's complement, lowest byte first.
+#![tactic(auto)]
+
 ghost use Rattle.std.specs.Prelude.{◌≡◌, ◌+◌, ◌*◌, ◌≤◌, ◌<◌, length};
 ghost use Rattle.ints.specs.Twos.{twos, bits_of};
 ghost use Rattle.numbers.specs.Bytes.{bytes_of, number_at, numbers, encoded};

@@ -1,9 +1,11 @@
 // An amount split over shares: the order of refusals, the amount's sign, and the parts of its size.
+#![tactic(auto)]
+
 ghost use Rattle.std.specs.Prelude.{◌≡◌, length};
 ghost use Rattle.split.specs.Split.{total as Split·total, split_refusal, split_outcome};
 
 // What is refused of an amount and its shares; where nothing is, 0, and the total of the shares.
-#[derive(Drop)]
+#[derive(Clone, Copy)]
 pub struct Tested {
     pub refusal: u32,
     pub total: u64,

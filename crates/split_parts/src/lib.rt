@@ -1,4 +1,6 @@
 // The parts of a size by largest remainders (document 01, "The split").
+#![tactic(auto)]
+
 ghost use Rattle.std.specs.Prelude.{◌≡◌, ◌*◌, ◌/◌, ◌%◌, ◌≤◌, ◌<◌, pos, length};
 ghost use Rattle.ints.specs.Number.{signed};
 ghost use Rattle.ints.specs.Table.{tab};
@@ -30,7 +32,7 @@ pub fn total_of(shares: &[i64]) -> u64
 }
 
 // What a share gets of a size, cut down, and the remainder of that.
-#[derive(Drop)]
+#[derive(Clone, Copy)]
 pub struct Cut {
     pub whole: u64,
     pub rest: u64,

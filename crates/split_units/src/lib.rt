@@ -1,5 +1,7 @@
 // The units left, one each to the parties with the largest keys (document 01, "The split").
 // A key is a remainder and its party's place in one number, below 2^44, and no two are equal. Whoever's key is above a floor gets a unit: the floor is moved from key to key until as many are above it as units are left.
+#![tactic(auto)]
+
 ghost use Rattle.std.specs.Prelude.{◌≡◌, ◌+◌, ◌-◌, ◌*◌, ◌/◌, ◌<◌, ◌≤◌, min, ◌&&◌, length, pos, nat_le, nat_lt, slice_index, unsigned_abs};
 ghost use Rattle.ints.specs.Number.{signed};
 ghost use Rattle.ints.specs.Sum.{one};
@@ -40,7 +42,7 @@ fn keys_above(keys: &[u64; 64], n: usize, floor: u64) -> u64
 }
 
 // A floor, and how many keys are above it.
-#[derive(Drop)]
+#[derive(Clone, Copy)]
 pub struct Level {
     pub floor: u64,
     pub count: u64,

@@ -11,7 +11,7 @@ use Rattle.exercise.specs.Packed.{bytes_at}
 use Rattle.hour.specs.Order.{row_refusal, transaction_refusal, surplus_refusal}
 use Rattle.exercise.specs.CasesFile as exercise
 use Rattle.exercise.specs.File.{header, places_of}
-use Rattle.exercise.specs.Order.{header_refusal, frame_refusal, spare_of, hour_refusal}
+use Rattle.exercise.specs.Order.{header_refusal, frame_refusal, hour_refusal}
 use Rattle.hour.specs.Charges.{ahead_at, real_at, ahead_path, real_path, position_charge, path_charge, charge, congestion_charges_of, loss_charges_of}
 use Rattle.exercise.specs.CasesHour.{congested, small_file, no_price, highest, heaviest, light}
 use Rattle.hour.specs.Surplus.{surplus, shares, credits, nets}

@@ -1,4 +1,6 @@
 // The lines of a statement, written into a page: each participant's, the last one, and a refusal's.
+#![tactic(auto)]
+
 ghost use Rattle.std.specs.Prelude.{◌+◌, ◌*◌, ◌≤◌, ◌<◌, length};
 ghost use Rattle.text.specs.Inside.{Written};
 ghost use Rattle.statement.specs.Inside.{Printable};

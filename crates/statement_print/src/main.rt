@@ -1,12 +1,14 @@
 // The statement of an exercise file, made on a page, and the program that prints it.
-ghost use Rattle.std.specs.Prelude.{◌≡◌, ◌++◌, ◌≤◌, length, drop};
+#![tactic(auto)]
+
+ghost use Rattle.std.specs.Prelude.{◌≡◌, ◌++◌, ◌≤◌, length, drop, IfOk};
 ghost use Rattle.text.specs.Inside.{Written};
 ghost use Rattle.exercise.specs.Order.{frame_refusal};
 ghost use Rattle.exercise.specs.File.{hour_of};
 ghost use Rattle.hour_settle.specs.Inside.{Cleared, Outputs};
 ghost use Rattle.statement.specs.Statement.{statement_of};
 
-use libc::{STDIN_FILENO, STDOUT_FILENO};
+use std::io::{self, Read, Write};
 
 // The statement of a file that passes the order to its length, settled into lists as long as the participants.
 fn put_hour(
@@ -55,12 +57,27 @@ pub fn put_statement(file: &[u8], page: &mut [u8; 6825]) -> usize
     )
 }
 
+// Reads until the buffer is full or the input has ended; the answer is how many bytes were read.
+fn read_full(from: &mut impl Read, buffer: &mut [u8]) -> io::Result<usize>
+    ensures { IfOk result (λ n. n ≤ length buffer.new) }
+{
+    let mut n: usize = 0;
+    while n < buffer.len() {
+        let got = from.read(&mut buffer[n..])?;
+        if got == 0 {
+            break;
+        }
+        n += got;
+    }
+    Ok(n)
+}
+
 // The program: the statement of the exercise file on standard input. It reads one byte more than the longest file has, so
 // that longer input is refused by its length.
-fn main() {
+fn main(rt: HostRuntime) -> io::Result<()> {
     let mut file = [0u8; 19078];
-    let n = io::read_full(STDIN_FILENO, &mut file);
+    let n = read_full(&mut rt.stdin(), &mut file)?;
     let mut page = [0u8; 6825];
     let length = put_statement(&file[..n], &mut page);
-    io::write_all(STDOUT_FILENO, &page[..length]);
+    rt.stdout().write_all(&page[..length])
 }

@@ -1,4 +1,6 @@
 // Numbers and bytes, written into a text from a place on. Each function answers where what it wrote ends.
+#![tactic(auto)]
+
 ghost use Rattle.std.specs.Prelude.{◌+◌, ◌≤◌, ◌<◌, ◌∷◌, [], length};
 ghost use Rattle.text.specs.Decimal.{digit, digits, sign_text, decimal};
 ghost use Rattle.text.specs.Inside.{Written};

@@ -1,4 +1,4 @@
--- How one unit becomes another (document 01): a charge in twelfths of a millionth of a dollar is rounded to cents. The charges themselves, k_w times mills, are in crate
+-- How one unit becomes another (document 01): a charge in twelfths of a millionth of a dollar is rounded to cents. The charges themselves, kW times mills, are in crate
 -- `hour`, specs/Charges, in the tariff's letters. Assumes nothing.
 use Rattle.std.specs.Prelude.{ℕ, ◌+◌, ◌/◌, ℤ, nat_abs}
 use Rattle.ints.specs.Number.{below0, signed}

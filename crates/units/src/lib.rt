@@ -1,28 +1,30 @@
 // Document 01: "Kilowatts, mills and cents are never added to one another". A struct for each unit, and the only
 // functions in which one becomes another.
+#![tactic(auto)]
+
 ghost use Rattle.std.specs.Prelude.{◌≡◌, pos, neg_ℤ, ◌-ℤ◌};
 ghost use Rattle.ints.specs.InsideRange.{Within};
 ghost use Rattle.units.specs.Units.{cents_of};
 ghost use Rattle.units.specs.Inside.{charge_of, whole_hour};
 
 // Kilowatts. That they are 0 to 20,000,000 is tested where they are read.
-#[derive(Drop)]
+#[derive(Clone, Copy)]
 pub struct Kw(pub u32);
 
 // Kilowatts withdrawn less kilowatts injected: above 0 they are charged, below 0 reimbursed. That they are within 20,000,000 is asked for by `charge_of`.
-#[derive(Drop)]
+#[derive(Clone, Copy)]
 pub struct NetKw(pub i64);
 
 // Mills (0.001 dollar) per MWh: a price, or a weight made of prices.
-#[derive(Drop)]
+#[derive(Clone, Copy)]
 pub struct Mills(pub i64);
 
 // Twelfths of a millionth of a dollar: a charge, exactly.
-#[derive(Drop)]
+#[derive(Clone, Copy)]
 pub struct Twelfths(pub i64);
 
 // Cents: a charge as it is billed.
-#[derive(Drop)]
+#[derive(Clone, Copy)]
 pub struct Cents(pub i64);
 
 // What is withdrawn.
@@ -39,7 +41,7 @@ pub fn injected(kw: Kw) -> NetKw
     NetKw(ints::with_sign(true, kw.0 as u64))
 }
 
-// The charge of k_w at a price, for one interval, or at a weight. A weight is at most that of a path: 24 prices at each of its two ends.
+// The charge of kW at a price, for one interval, or at a weight. A weight is at most that of a path: 24 prices at each of its two ends.
 pub fn charge_of(kw: NetKw, price: Mills) -> Twelfths
     requires { Within kw.0 20000000 × Within price.0 240000000 }
     ensures { result.0 ≡ charge_of kw.0 price.0 }

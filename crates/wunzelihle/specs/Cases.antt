@@ -47,7 +47,7 @@ share-below : split_bytes_outcome (pos 10) (small 1 ++ replicate 8 0xFF) (replic
 unfolding split_bytes_refusal split_refusal all lowest_first tab
 share-below = refl
 
--- ---- the load: one bus, 5 k_w, no meter, generator, area or contract, and 64 tranches of which none is won
+-- ---- the load: one bus, 5 kW, no meter, generator, area or contract, and 64 tranches of which none is won
 
 abbrev tranches : List ℕ
 tranches = replicate 512 0

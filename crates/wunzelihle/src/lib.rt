@@ -1,4 +1,6 @@
 // What the C server calls: each answers its refusal, or 0. Lists cross in bytes, eight a number; the work is done in the crates below.
+#![tactic(auto)]
+
 ghost use Rattle.std.specs.Prelude.{◌≡◌, [], ◌∷◌, ◌*◌, length};
 ghost use Rattle.ints.specs.Refusal.{lent};
 ghost use Rattle.numbers.specs.Bytes.{numbers, encoded};

@@ -1,0 +1,10 @@
+use Prim.Native.Nat.{◌+◌}
+use native.Mathlib.Omega.{arith}
+use Rattle.exercise.proofs.Packed.{one_byte, grouped}
+use Rattle.exercise_file.proofs.five_at.Goals as goal
+
+pub returns : goal.returns
+returns c = let a = c.args in
+    let s = a.s.now in
+    let k = a.k in
+    omega (arith, grouped s k 4 1, grouped s k 3 1, one_byte s (k + 3), one_byte s (k + 4))
