@@ -1,62 +1,59 @@
--- A row, and a transaction, that was decoded in turn: accepted, all up to it have no refusal; refused, its refusal is that of all. Assumes nothing.
-use mathlib.Core.Path.{◌≡◌, refl}
-use mathlib.Core.List.{List}
-use Prim.Native.Nat.{ℕ, ◌+◌, ◌<◌}
-use native.Mathlib.Omega.{arith}
-use Rattle.ints.proofs.Turns.{answer-next, answer-first, answer-some, answer-taken}
-use Rattle.exercise.specs.File.{row_at, transaction_at}
-use Rattle.exercise.specs.Order.{row_refusal_at, transaction_refusal_at}
-use Rattle.exercise.specs.Decoding.{decoded_row_refusal, decoded_transaction_refusal}
-use Rattle.exercise.specs.declared.DecodedRow.{DecodedRow}
-use Rattle.exercise.specs.declared.DecodedTransaction.{DecodedTransaction}
+-- What is decoded: accepted, it is what stands there, which has no refusal; and the answer of a call that decodes is the refusal. Assumes nothing.
+use Rattle.std.proofs.Common.{◌≡◌, ℕ, List, Bool, true, false, eqb, refl, sym, ap, ◌∙◌}
+use Rattle.std.specs.Prelude.{Result, Ok, Err}
+use borrow.Author.Tests.{eqb-true}
+use Rattle.ints.specs.Refusal.{pick}
+use Rattle.refusals.specs.Number.{answer, numbered}
+use Rattle.refusals.specs.declared.Refusal.{Refusal}
 use Rattle.hour.specs.declared.Edition.{Edition}
 use Rattle.hour.specs.declared.Row.{Row}
 use Rattle.hour.specs.declared.Transaction.{Transaction}
-use Rattle.exercise.specs.Inside.{rows_in_refusal, transactions_in_refusal, decoded_row_at, decoded_transaction_at}
+use Rattle.exercise.specs.Decoding.{decoded, decoded_refusal}
+use Rattle.exercise.specs.File.{row_at, transaction_at}
+use Rattle.exercise.specs.Inside.{decoded_row_at, decoded_transaction_at}
+use Rattle.exercise.specs.Order.{row_refusal_at, transaction_refusal_at}
 
--- ---- the two cases of an answer hold what they were made of, and are apart
+-- ---- the two cases hold what they were made of, and are apart
 
-pub row_inside : (x y : Row) → DecodedRow.Decoded x ≡ DecodedRow.Decoded y → x ≡ y
-row_inside x y e = cc
+module _ {A : Type 0} where
+  pub inside : (x y : A) → ◌≡◌ {A = Result A ℕ} (Ok x) (Ok y) → x ≡ y
+  inside x y e = cc
 
-pub row_apart : (x : Row) (k : ℕ) → DecodedRow.Decoded x ≡ DecodedRow.Refused k → ⊥
-row_apart x k e = let z : ◌≡◌ {A = ℕ} 0 1 = cc in omega arith
+  pub apart : (x : A) (k : ℕ) → ◌≡◌ {A = Result A ℕ} (Ok x) (Err k) → ⊥
+  apart x k e = cc
 
-pub transaction-inside : (x y : Transaction) → DecodedTransaction.Decoded x ≡ DecodedTransaction.Decoded y → x ≡ y
-transaction-inside x y e = cc
+  -- the number of an outcome is its answer
+  pub told : (r : Result A Refusal) → answer r ≡ decoded_refusal (numbered r)
+  told (Ok x) = refl
+  told (Err refusal) = refl
 
-pub transaction-apart : (x : Transaction) (k : ℕ) → DecodedTransaction.Decoded x ≡ DecodedTransaction.Refused k → ⊥
-transaction-apart x k e = let z : ◌≡◌ {A = ℕ} 0 1 = cc in omega arith
+-- ---- what is decoded
 
--- ---- what is decoded at a place
+module _ {A : Type 0} (refusal : ℕ) (x : A) where
+  pub taken : (y : A) → decoded refusal x ≡ Ok y → (refusal ≡ 0) × (x ≡ y)
+  taken y = by (eqb refusal 0) refl
+    where
+      by : (t : Bool) → eqb refusal 0 ≡ t → ◌≡◌ {A = Result A ℕ} (pick t (Ok x) (Err refusal)) (Ok y) → (refusal ≡ 0) × (x ≡ y)
+      by true t e = (eqb-true refusal 0 t, inside x y e)
+      by false t e = absurd (apart y refusal (sym e))
 
-module _ (participants locations : ℕ) (s : List ℕ) (i : ℕ) where
-  -- accepted, it is the row at its place, which has no refusal
-  pub row-decoded : (r : Row) → decoded_row_at participants locations s i ≡ DecodedRow.Decoded r → (row_refusal_at participants locations s i ≡ 0) × (row_at s i ≡ r)
-  row-decoded r e = answer-taken DecodedRow.Decoded DecodedRow.Refused row_inside row_apart _ (row_at s i) r e
+  pub its-refusal : decoded_refusal (decoded refusal x) ≡ refusal
+  its-refusal = by (eqb refusal 0) refl
+    where
+      by : (t : Bool) → eqb refusal 0 ≡ t → decoded_refusal {A = A} (pick t (Ok x) (Err refusal)) ≡ refusal
+      by true t = sym (eqb-true refusal 0 t)
+      by false t = refl
 
-  -- in turn
-  module _ (d : DecodedRow) (e : d ≡ decoded_row_at participants locations s i) (before : rows_in_refusal participants locations s i ≡ 0) where
-    pub row_next : (r : Row) → d ≡ DecodedRow.Decoded r → rows_in_refusal participants locations s (i + 1) ≡ 0
-    row_next = answer-next DecodedRow.Decoded DecodedRow.Refused decoded_row_refusal (λ _. refl) (λ _. refl) (row_refusal_at participants locations s) (row_at s) i before d e
+  -- by a call
+  module _ (r : Result A Refusal) (e : numbered r ≡ decoded refusal x) where
+    pub answered : answer r ≡ refusal
+    answered = told r ∙ ap decoded_refusal e ∙ its-refusal
 
-    pub row_first : (k n : ℕ) → d ≡ DecodedRow.Refused k → i < n → decoded_row_refusal d ≡ rows_in_refusal participants locations s n
-    row_first k n q h = answer-first DecodedRow.Decoded DecodedRow.Refused decoded_row_refusal (λ _. refl) (λ _. refl) (row_refusal_at participants locations s) (row_at s) i before d e row_apart k q n h
+-- ---- at a place
 
-    pub row-some : (k : ℕ) → d ≡ DecodedRow.Refused k → decoded_row_refusal d ≡ 0 → ⊥
-    row-some k q = answer-some DecodedRow.Decoded DecodedRow.Refused decoded_row_refusal (λ _. refl) (λ _. refl) (row_refusal_at participants locations s) (row_at s) i before d e row_apart k q
+pub row-decoded : (participants locations : ℕ) (s : List ℕ) (i : ℕ) (r : Row) → decoded_row_at participants locations s i ≡ Ok r → (row_refusal_at participants locations s i ≡ 0) × (row_at s i ≡ r)
+row-decoded participants locations s i r e = taken (row_refusal_at participants locations s i) (row_at s i) r e
 
-module _ (edition : Edition) (participants locations : ℕ) (s : List ℕ) (i : ℕ) where
-  pub transaction-decoded : (t : Transaction) → decoded_transaction_at edition participants locations s i ≡ DecodedTransaction.Decoded t
-      → (transaction_refusal_at edition participants locations s i ≡ 0) × (transaction_at edition s i ≡ t)
-  transaction-decoded t e = answer-taken DecodedTransaction.Decoded DecodedTransaction.Refused transaction-inside transaction-apart _ (transaction_at edition s i) t e
-
-  module _ (d : DecodedTransaction) (e : d ≡ decoded_transaction_at edition participants locations s i) (before : transactions_in_refusal edition participants locations s i ≡ 0) where
-    pub transaction-next : (t : Transaction) → d ≡ DecodedTransaction.Decoded t → transactions_in_refusal edition participants locations s (i + 1) ≡ 0
-    transaction-next = answer-next DecodedTransaction.Decoded DecodedTransaction.Refused decoded_transaction_refusal (λ _. refl) (λ _. refl) (transaction_refusal_at edition participants locations s) (transaction_at edition s) i before d e
-
-    pub transaction-first : (k n : ℕ) → d ≡ DecodedTransaction.Refused k → i < n → decoded_transaction_refusal d ≡ transactions_in_refusal edition participants locations s n
-    transaction-first k n q h = answer-first DecodedTransaction.Decoded DecodedTransaction.Refused decoded_transaction_refusal (λ _. refl) (λ _. refl) (transaction_refusal_at edition participants locations s) (transaction_at edition s) i before d e transaction-apart k q n h
-
-    pub transaction-some : (k : ℕ) → d ≡ DecodedTransaction.Refused k → decoded_transaction_refusal d ≡ 0 → ⊥
-    transaction-some k q = answer-some DecodedTransaction.Decoded DecodedTransaction.Refused decoded_transaction_refusal (λ _. refl) (λ _. refl) (transaction_refusal_at edition participants locations s) (transaction_at edition s) i before d e transaction-apart k q
+pub transaction-decoded : (edition : Edition) (participants locations : ℕ) (s : List ℕ) (i : ℕ) (t : Transaction) → decoded_transaction_at edition participants locations s i ≡ Ok t
+    → (transaction_refusal_at edition participants locations s i ≡ 0) × (transaction_at edition s i ≡ t)
+transaction-decoded edition participants locations s i t e = taken (transaction_refusal_at edition participants locations s i) (transaction_at edition s i) t e

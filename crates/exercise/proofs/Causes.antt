@@ -15,10 +15,9 @@ use Rattle.ints.specs.Turn.{◌then◌}
 use Rattle.ints.proofs.Bools.{same, and-true}
 use Rattle.ints.proofs.Tests.{count-from-0}
 use Rattle.ints.proofs.Turns.{then-later, then-assoc, then-nothing, then-under}
-use Rattle.hour.specs.Cause.{as_number, stands_at, of_file, of_header, of_list, cause, no_cause, tested, ◌or◌, content_cause, credits_cause}
+use Rattle.hour.specs.Cause.{Cause, as_number, stands_at, of_file, of_header, of_list, cause, no_cause, tested, ◌or◌, content_cause, credits_cause}
 use Rattle.hour.specs.Order.{outputs_refusal, content_refusal}
 use Rattle.hour.specs.Surplus.{surplus, shares}
-use Rattle.hour.specs.declared.Cause.{Cause}
 use Rattle.hour.proofs.Causes.{Outside, none-outside, Stands, HasHour, line-stands, tested-stands, or-stands, content-stands, credits-stands, as-number, or-number, tested-number, line-number, next-line, content-number, credits-number, tested-outside, or-outside, content-outside, surplus-outside}
 use Rattle.exercise.specs.Cause.{file_numbers, given_numbers, header_cause, headless_cause, frame_cause, hour_cause, counts_cause, lists_cause, given_cause}
 use Rattle.exercise.specs.Decoding.{count_of}

@@ -1,7 +1,6 @@
 -- Why a file, or an hour in lists of numbers, is refused, worked. Assumes nothing.
 use Rattle.std.specs.Prelude.{◌≡◌, refl, [], ◌∷◌, ℕ, pos, negsuc}
-use Rattle.hour.specs.Cause.{of_file, of_header, of_list, cause, no_cause, tested}
-use Rattle.hour.specs.declared.Cause.{Cause}
+use Rattle.hour.specs.Cause.{Cause, of_file, of_header, of_list, cause, no_cause, tested}
 use Rattle.hour.specs.declared.Edition.TheVariants as Edition
 use Rattle.exercise.specs.Cause.{header_cause, frame_cause, counts_cause, lists_cause}
 use Rattle.exercise.specs.File.{header, places_of}

@@ -4,8 +4,7 @@ use Rattle.std.specs.Prelude.{◌≡◌, refl, List, [], ◌∷◌, ◌++◌, �
 use Rattle.ints.specs.Table.{tab, all}
 use Rattle.ints.specs.Turn.{in_order}
 use Rattle.numbers.specs.Bytes.{lowest_first, bytes_of, encoded}
-use Rattle.hour.specs.Cause.{of_header, of_transaction, cause, tested, first_cause, row_cause, transaction_cause, prices_cause, rows_cause, transactions_cause, content_cause, stands_at}
-use Rattle.hour.specs.declared.Cause.{Cause}
+use Rattle.hour.specs.Cause.{Cause, of_header, of_transaction, cause, tested, first_cause, row_cause, transaction_cause, prices_cause, rows_cause, transactions_cause, content_cause, stands_at}
 use Rattle.hour.specs.Hour.{Hour}
 use Rattle.hour.specs.Order.{prices_refusal, row_refusal, packed_row_refusal, rows_refusal, transaction_refusal, packed_transaction_refusal, transactions_refusal, content_refusal}
 use Rattle.hour.specs.declared.Edition.TheVariants as Edition

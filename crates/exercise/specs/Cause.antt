@@ -3,8 +3,7 @@
 use Rattle.std.specs.Prelude.{List, [], ◌∷◌, ℕ, ◌*◌, leb, eqb, ℤ, pos, length}
 use Rattle.ints.specs.Refusal.{pick, unless, lent}
 use Rattle.numbers.specs.Bytes.{encoded}
-use Rattle.hour.specs.Cause.{of_file, of_header, of_list, cause, no_cause, as_number, tested, ◌or◌, content_cause, credits_cause, stands_at, cause_numbers}
-use Rattle.hour.specs.declared.Cause.{Cause}
+use Rattle.hour.specs.Cause.{Cause, of_file, of_header, of_list, cause, no_cause, as_number, tested, ◌or◌, content_cause, credits_cause, stands_at, cause_numbers}
 use Rattle.exercise.specs.Decoding.{count_of}
 use Rattle.hour.specs.declared.Edition.{Edition}
 use Rattle.exercise.specs.File.{header, places_of, hour_of}

@@ -1,5 +1,5 @@
 -- Decoding (document 01, "The exercise file"): "Decoding one row gives the row or its refusal." Assumes nothing.
-use Rattle.std.specs.Prelude.{List, ℕ, eqb, ℤ, pos, nat_abs, length}
+use Rattle.std.specs.Prelude.{List, ℕ, eqb, ℤ, pos, nat_abs, length, Result, Ok, Err}
 use Rattle.ints.specs.Number.{between}
 use Rattle.ints.specs.Refusal.{pick, unless}
 use Rattle.ints.specs.Turn.{◌then◌}
@@ -9,24 +9,15 @@ use Rattle.hour.specs.declared.Edition.{Edition}
 use Rattle.exercise.specs.Layout.{row_size, transaction_size}
 use Rattle.exercise.specs.File.{row_at, transaction_at}
 use Rattle.exercise.specs.Order.{row_refusal_at, transaction_refusal_at}
-use Rattle.exercise.specs.declared.DecodedRow.{DecodedRow}
-use Rattle.exercise.specs.declared.DecodedTransaction.{DecodedTransaction}
 
--- ---- the answers, and the number of each case: 0 for a row, and else its refusal
+-- ---- what is decoded: what was read, or the number of its refusal; and the number of each case: 0 for what was read, and else its refusal
 
-abbrev pub row_answer : ℕ → Row → DecodedRow
-row_answer refusal row = pick (eqb refusal 0) (DecodedRow.Decoded row) (DecodedRow.Refused refusal)
+abbrev pub decoded : {A : Type 0} → ℕ → A → Result A ℕ
+decoded refusal x = pick (eqb refusal 0) (Ok x) (Err refusal)
 
-abbrev pub decoded_row_refusal : DecodedRow → ℕ
-decoded_row_refusal (DecodedRow.Decoded row) = 0
-decoded_row_refusal (DecodedRow.Refused refusal) = refusal
-
-abbrev pub transaction_answer : ℕ → Transaction → DecodedTransaction
-transaction_answer refusal transaction = pick (eqb refusal 0) (DecodedTransaction.Decoded transaction) (DecodedTransaction.Refused refusal)
-
-abbrev pub decoded_transaction_refusal : DecodedTransaction → ℕ
-decoded_transaction_refusal (DecodedTransaction.Decoded transaction) = 0
-decoded_transaction_refusal (DecodedTransaction.Refused refusal) = refusal
+abbrev pub decoded_refusal : {A : Type 0} → Result A ℕ → ℕ
+decoded_refusal (Ok x) = 0
+decoded_refusal (Err refusal) = refusal
 
 -- ---- one by itself
 
@@ -48,8 +39,8 @@ row_alone_refusal participants locations bytes =
     given_refusal participants locations (length bytes) row_size
     then row_refusal_at (count_of participants) (count_of locations) bytes 0
 
-abbrev pub decoded_row : ℤ → ℤ → List ℕ → DecodedRow
-decoded_row participants locations bytes = row_answer (row_alone_refusal participants locations bytes) (row_at bytes 0)
+abbrev pub decoded_row : ℤ → ℤ → List ℕ → Result Row ℕ
+decoded_row participants locations bytes = decoded (row_alone_refusal participants locations bytes) (row_at bytes 0)
 
 -- a transaction of an edition likewise: document 01 has no order for it, and docs/DECISIONS.md gives it the row's
 abbrev pub transaction_alone_refusal : Edition → ℤ → ℤ → List ℕ → ℕ
@@ -57,6 +48,6 @@ transaction_alone_refusal edition participants locations bytes =
     given_refusal participants locations (length bytes) (transaction_size edition)
     then transaction_refusal_at edition (count_of participants) (count_of locations) bytes 0
 
-abbrev pub decoded_transaction : Edition → ℤ → ℤ → List ℕ → DecodedTransaction
+abbrev pub decoded_transaction : Edition → ℤ → ℤ → List ℕ → Result Transaction ℕ
 decoded_transaction edition participants locations bytes =
-    transaction_answer (transaction_alone_refusal edition participants locations bytes) (transaction_at edition bytes 0)
+    decoded (transaction_alone_refusal edition participants locations bytes) (transaction_at edition bytes 0)

@@ -1,18 +1,19 @@
 -- What the widths let a header say, and the order over the stretches of a file, as loops go through them. Assumes nothing.
-use Rattle.std.specs.Prelude.{Bool, List, ℕ, ◌+◌, ◌≤◌, ℤ}
-use Rattle.ints.specs.Refusal.{pick, unless}
+use Rattle.std.specs.Prelude.{List, ℕ, ◌+◌, ◌≤◌, ℤ, Result}
+use Rattle.ints.specs.Refusal.{unless}
 use Rattle.ints.specs.Turn.{◌then◌, in_turn}
 use Rattle.hour.specs.Order.{is_price}
 use Rattle.hour.specs.declared.Edition.{Edition}
-use Rattle.exercise.specs.Decoding.{row_answer, transaction_answer}
+use Rattle.hour.specs.declared.Row.{Row}
+use Rattle.hour.specs.declared.Transaction.{Transaction}
+use Rattle.exercise.specs.Decoding.{decoded}
 use Rattle.exercise.specs.Layout.{row_size, transaction_size, edition_of}
 use Rattle.exercise.specs.Lists.{transaction_length}
 use Rattle.exercise.specs.File.{price_count, price_at, row_at, transaction_at}
 use Rattle.exercise.specs.Order.{row_refusal_at, transaction_refusal_at}
 use Rattle.exercise.specs.Written.{packed, count_fields}
-use Rattle.exercise.specs.declared.DecodedRow.{DecodedRow}
-use Rattle.exercise.specs.declared.DecodedTransaction.{DecodedTransaction}
 use Rattle.exercise.specs.declared.Header.{Header}
+use Rattle.exercise.specs.declared.Item.{Item}
 
 pub record Small (h : Header) : Type 0 where
   pub participants : h.participants ≤ 64
@@ -22,11 +23,13 @@ pub record Small (h : Header) : Type 0 where
 
 -- ---- an item is a row or a transaction: how many bytes it has in a file, and how many numbers in a list
 
-abbrev pub item_size : Bool → Edition → ℕ
-item_size transactions edition = pick transactions (transaction_size edition) row_size
+abbrev pub item_size : Item → ℕ
+item_size Item.Row = row_size
+item_size (Item.Transaction edition) = transaction_size edition
 
-abbrev pub item_length : Bool → Edition → ℕ
-item_length transactions edition = pick transactions (transaction_length edition) 6
+abbrev pub item_length : Item → ℕ
+item_length Item.Row = 6
+item_length (Item.Transaction edition) = transaction_length edition
 
 -- ---- the first n prices, rows and transactions of a stretch
 
@@ -57,12 +60,12 @@ stretches_refusal h prices rows transactions = prices_in_refusal prices (price_c
 
 -- ---- what is decoded at a place of a stretch
 
-abbrev pub decoded_row_at : ℕ → ℕ → List ℕ → ℕ → DecodedRow
-decoded_row_at participants locations s i = row_answer (row_refusal_at participants locations s i) (row_at s i)
+abbrev pub decoded_row_at : ℕ → ℕ → List ℕ → ℕ → Result Row ℕ
+decoded_row_at participants locations s i = decoded (row_refusal_at participants locations s i) (row_at s i)
 
-abbrev pub decoded_transaction_at : Edition → ℕ → ℕ → List ℕ → ℕ → DecodedTransaction
+abbrev pub decoded_transaction_at : Edition → ℕ → ℕ → List ℕ → ℕ → Result Transaction ℕ
 decoded_transaction_at edition participants locations s i =
-    transaction_answer (transaction_refusal_at edition participants locations s i) (transaction_at edition s i)
+    decoded (transaction_refusal_at edition participants locations s i) (transaction_at edition s i)
 
 -- ---- a header of so many participants, locations, rows and transactions, packed
 

@@ -17,7 +17,9 @@ use Rattle.exercise.specs.File.{header, edition_in, hour_of}
 use Rattle.exercise.specs.Layout.{header_size, edition_of}
 use Rattle.exercise.specs.Order.{frame_refusal, spare_of, file_refusal, in_bytes}
 use Rattle.exercise.specs.Written.{file_of}
+use Rattle.exercise.specs.declared.Counts.{Counts}
 use Rattle.exercise.specs.declared.Header.{Header}
+use Rattle.exercise.specs.declared.HourLists.{HourLists}
 
 -- ---- handed over, to be written
 
@@ -35,6 +37,14 @@ pub record Content : Type 0 where
 abbrev pub content : ℤ → ℤ → ℤ → ℤ → ℤ → List ℕ → List ℕ → List ℕ → Content
 content participants locations rows transactions edition prices row_list transaction_list =
     record { participants = participants; locations = locations; rows = rows; transactions = transactions; edition = edition; prices = prices; row_list = row_list; transaction_list = transaction_list }
+
+-- the same of counts and lists, and of counts that pass
+abbrev pub handed_over : Counts → HourLists → Content
+handed_over counts lists =
+    content counts.participants counts.locations counts.rows counts.transactions counts.edition lists.prices.now lists.rows.now lists.transactions.now
+
+abbrev pub counted : Header → HourLists → Content
+counted h lists = content (pos h.participants) (pos h.locations) (pos h.rows) (pos h.transactions) (pos h.edition) lists.prices.now lists.rows.now lists.transactions.now
 
 -- the n prices of a list from number j on, as `prices_from` of File.antt has those of a file
 abbrev pub prices_given : List ℕ → ℕ → ℕ → List ℤ

@@ -6,9 +6,10 @@ ghost use Rattle.exercise.specs.Inside.{item_size, item_length};
 ghost use Rattle.exercise.specs.Layout.{transaction_size, edition_of};
 ghost use Rattle.exercise.specs.Lists.{transaction_length};
 
+use exercise::Item;
 use hour::Edition;
 
-// The edition of a number; one that is neither 0 nor 1 is refused elsewhere.
+// The edition of a number. One that is neither 0 nor 1 is refused elsewhere, in its place in the order, so that there is nothing to refuse here.
 pub fn edition_of(number: u64) -> Edition
     ensures { result ≡ edition_of number }
 {
@@ -38,22 +39,22 @@ pub fn transaction_length(edition: Edition) -> usize
     }
 }
 
-// How many bytes an item has, a transaction or a row.
-pub fn item_size(transactions: bool, edition: Edition) -> usize
-    ensures { (result ≡ item_size transactions edition) × (result ≤ 7) }
+// How many bytes an item has.
+pub fn item_size(item: Item) -> usize
+    ensures { (result ≡ item_size item) × (result ≤ 7) }
 {
-    if transactions {
-        return transaction_size(edition);
+    match item {
+        Item::Row => 6,
+        Item::Transaction(edition) => transaction_size(edition),
     }
-    6
 }
 
 // How many numbers it has in a list.
-pub fn item_length(transactions: bool, edition: Edition) -> usize
-    ensures { (result ≡ item_length transactions edition) × (result ≤ 7) }
+pub fn item_length(item: Item) -> usize
+    ensures { (result ≡ item_length item) × (result ≤ 7) }
 {
-    if transactions {
-        return transaction_length(edition);
+    match item {
+        Item::Row => 6,
+        Item::Transaction(edition) => transaction_length(edition),
     }
-    6
 }

@@ -1,316 +1,168 @@
-// Why an hour in lists of numbers, eight bytes a number, is refused.
+// Why an hour in lists of numbers, eight bytes a number, is refused. `exercise_cause` says it of what stands packed in a file, by other definitions: a trait over both would be longer than the loops that they share.
 #![tactic(auto)]
 
-ghost use Rattle.std.specs.Prelude.{◌≡◌, ◌+◌, ◌*◌, ◌≤◌, pos, length};
+ghost use Rattle.std.specs.Prelude.{◌≡◌, ◌+◌, ◌*◌, ◌≤◌, length};
 ghost use Rattle.numbers.specs.Bytes.{number_at};
-ghost use Rattle.hour.specs.Cause.{price_cause, row_cause, transaction_cause, content_cause};
+ghost use Rattle.hour.specs.Cause.{of_header, tested, price_cause, content_cause};
 ghost use Rattle.hour.specs.InsideCause.{first_from};
-ghost use Rattle.hour.specs.declared.Edition.TheVariants as Edition;
+ghost use Rattle.hour.specs.InsideTold.{header_field, list_field, told};
 ghost use Rattle.exercise.specs.Cause.{counts_cause, length_cause, lists_cause, listed_cause, given_cause};
 ghost use Rattle.exercise.specs.Inside.{item_length};
 ghost use Rattle.exercise.specs.Layout.{edition_of};
-ghost use Rattle.exercise.specs.Lists.{content, hour_given, row_given, transaction_given, transaction_length, no_spare};
-ghost use Rattle.exercise_list_cause.specs.Inside.{cause_given};
+ghost use Rattle.exercise.specs.Lists.{counted, handed_over, hour_given, transaction_length, no_spare};
+ghost use Rattle.exercise_list_cause.specs.Inside.{Taken, cause_given};
 
-use hour::{Cause, Edition};
+use exercise::{Counts, Header, HourLists, Item};
+use hour::{Cause, HeaderField, ListField, Place, Sizes};
+use refusals::Refusal;
 
 // ---- counts and lengths
 
-// The edition, and the counts.
-fn counts_cause(
-    participants: i64,
-    locations: i64,
-    rows: i64,
-    transactions: i64,
-    edition: i64,
-) -> Cause
-    ensures { result ≡ counts_cause participants locations rows transactions edition }
+// A count.
+fn count_cause(field: HeaderField, found: i64, least: i64, most: i64) -> Result<(), Cause>
+    ensures { told result ≡ tested 1 of_header 0 (header_field field) found least most }
 {
-    hour_cause::first_of(
-        hour_cause::tested(9, 2, 0, 4, edition, 0, 1),
-        hour_cause::first_of(
-            hour_cause::tested(1, 2, 0, 0, participants, 1, 64),
-            hour_cause::first_of(
-                hour_cause::tested(1, 2, 0, 1, locations, 1, 64),
-                hour_cause::first_of(
-                    hour_cause::tested(1, 2, 0, 2, rows, 0, 2048),
-                    hour_cause::tested(1, 2, 0, 3, transactions, 0, 256),
-                ),
-            ),
-        ),
-    )
+    hour_cause::tested(Refusal::Length, Place::Header(field), found, least, most)
+}
+
+// The edition, and the counts.
+#[tactic(auto, using(hour::proofs::Told::tests), unfolding(exercise::specs::Cause::counts_cause))]
+fn counts_cause(counts: Counts) -> Result<(), Cause>
+    ensures { told result ≡ counts_cause counts.participants counts.locations counts.rows counts.transactions counts.edition }
+{
+    hour_cause::tested(
+        Refusal::File,
+        Place::Header(HeaderField::Edition),
+        counts.edition,
+        0,
+        1,
+    )?;
+    count_cause(HeaderField::Participants, counts.participants, 1, 64)?;
+    count_cause(HeaderField::Locations, counts.locations, 1, 64)?;
+    count_cause(HeaderField::Rows, counts.rows, 0, 2048)?;
+    count_cause(HeaderField::Transactions, counts.transactions, 0, 256)
 }
 
 // A list that has to have n numbers.
-fn length_cause(field: u32, bytes: usize, n: usize) -> Cause
+fn length_cause(list: ListField, bytes: usize, n: usize) -> Result<(), Cause>
     requires { n ≤ 12288 }
-    ensures { result ≡ length_cause field bytes n }
+    ensures { told result ≡ length_cause (list_field list) bytes n }
 {
     let long = (8 * n) as i64;
-    hour_cause::tested(1, 8, 0, field, numbers::from_word(bytes as u64), long, long)
+    hour_cause::tested(
+        Refusal::Length,
+        Place::List(list),
+        numbers::from_word(bytes as u64),
+        long,
+        long,
+    )
 }
 
 // The three lists, by their lengths in bytes.
-fn lists_cause(
-    locations: usize,
-    rows: usize,
-    transactions: usize,
-    edition: Edition,
-    prices: usize,
-    row_list: usize,
-    transaction_list: usize,
-) -> Cause
-    requires { (locations ≤ 64) × (rows ≤ 2048) × (transactions ≤ 256) }
-    ensures { result ≡ lists_cause locations rows transactions edition prices row_list transaction_list }
+#[tactic(auto, using(hour::proofs::Told::tests), unfolding(exercise::specs::Cause::lists_cause))]
+fn lists_cause(header: Header, lists: HourLists) -> Result<(), Cause>
+    requires { Taken header }
+    ensures { told result ≡ lists_cause header.locations header.rows header.transactions (edition_of header.edition) (length lists.entry.prices.now) (length lists.entry.rows.now) (length lists.entry.transactions.now) }
 {
-    hour_cause::first_of(
-        length_cause(0, prices, 26 * locations),
-        hour_cause::first_of(
-            length_cause(1, row_list, 6 * rows),
-            length_cause(
-                2,
-                transaction_list,
-                exercise_editions::transaction_length(edition) * transactions,
-            ),
-        ),
+    let edition = exercise_editions::edition_of(header.edition as u64);
+    length_cause(ListField::Prices, lists.prices.len(), 26 * header.locations)?;
+    length_cause(ListField::Rows, lists.rows.len(), 6 * header.rows)?;
+    length_cause(
+        ListField::Transactions,
+        lists.transactions.len(),
+        exercise_editions::transaction_length(edition) * header.transactions,
     )
 }
 
 // ---- prices
 
 // The first n prices of a list.
-fn prices_cause(prices: &[u8], n: usize) -> Cause
+#[tactic(auto, using(hour::proofs::Told::turns))]
+fn prices_cause(prices: &[u8], n: usize) -> Result<(), Cause>
     requires { (8 * n ≤ length prices.now) × (n ≤ 1664) }
-    ensures { result ≡ first_from (λ j. price_cause j (number_at prices.now j)) 0 n }
+    ensures { told result ≡ first_from (λ j. price_cause j (number_at prices.now j)) 0 n }
 {
-    let mut j: usize = 0;
-    while j < n {
-        let cause = hour_cause::price_cause(j as u32, numbers::number_at(prices, j));
-        if cause.refusal != 0 {
-            return cause;
-        }
-        j += 1;
+    for j in 0..n {
+        hour_cause::price_cause(j as u32, numbers::number_at(prices, j))?;
     }
-    hour_cause::none()
+    Ok(())
 }
 
 // ---- rows and transactions
 
-// Row i of a list.
-fn row_cause(participants: u64, locations: u64, list: &[u8], i: usize) -> Cause
-    requires i_in_bounds { (48 * i + 48 ≤ length list.now) × (i ≤ 4095) }
-    requires le_participants { (1 ≤ participants) × (participants ≤ 64) × (1 ≤ locations) × (locations ≤ 64) }
-    ensures { result ≡ row_cause participants locations i (row_given list.now i) 0 }
+// Item i of a list.
+fn cause_at(item: Item, sizes: Sizes, list: &[u8], i: usize) -> Result<(), Cause>
+    requires { (8 * (item_length item * i + item_length item) ≤ length list.now) × (i ≤ 4095) }
+    ensures { told result ≡ cause_given item sizes.participants sizes.locations list.now i }
 {
-    hour_cause::row_cause(
-        participants,
-        locations,
-        i as u32,
-        numbers::word_at(list, 6 * i),
-        numbers::word_at(list, 6 * i + 1),
-        numbers::word_at(list, 6 * i + 2),
-        numbers::word_at(list, 6 * i + 3),
-        numbers::word_at(list, 6 * i + 4),
-        numbers::word_at(list, 6 * i + 5),
-        0,
-    )
-}
-
-// Transaction i of a list of such without a seller, six numbers each.
-fn path_cause(participants: u64, locations: u64, list: &[u8], i: usize) -> Cause
-    requires i_in_bounds { (48 * i + 48 ≤ length list.now) × (i ≤ 4095) }
-    requires le_participants { (1 ≤ participants) × (participants ≤ 64) × (1 ≤ locations) × (locations ≤ 64) }
-    ensures { result ≡ transaction_cause participants locations i (transaction_given Edition.PathOnly list.now i) 0 }
-{
-    hour_cause::transaction_cause(
-        participants,
-        locations,
-        i as u32,
-        numbers::word_at(list, 6 * i),
-        numbers::word_at(list, 6 * i + 1),
-        numbers::word_at(list, 6 * i + 2),
-        0,
-        numbers::word_at(list, 6 * i + 3),
-        numbers::word_at(list, 6 * i + 4),
-        numbers::word_at(list, 6 * i + 5),
-        0,
-    )
-}
-
-// Transaction i of a list of such with a seller, seven numbers each.
-fn sale_cause(participants: u64, locations: u64, list: &[u8], i: usize) -> Cause
-    requires i_in_bounds { (56 * i + 56 ≤ length list.now) × (i ≤ 4095) }
-    requires le_participants { (1 ≤ participants) × (participants ≤ 64) × (1 ≤ locations) × (locations ≤ 64) }
-    ensures { result ≡ transaction_cause participants locations i (transaction_given Edition.WithSeller list.now i) 0 }
-{
-    hour_cause::transaction_cause(
-        participants,
-        locations,
-        i as u32,
-        numbers::word_at(list, 7 * i),
-        numbers::word_at(list, 7 * i + 1),
-        numbers::word_at(list, 7 * i + 2),
-        numbers::word_at(list, 7 * i + 3),
-        numbers::word_at(list, 7 * i + 4),
-        numbers::word_at(list, 7 * i + 5),
-        numbers::word_at(list, 7 * i + 6),
-        0,
-    )
-}
-
-// Transaction i of a list.
-fn transaction_cause(
-    edition: Edition,
-    participants: u64,
-    locations: u64,
-    list: &[u8],
-    i: usize,
-) -> Cause
-    requires edition_in_bounds { (8 * (transaction_length edition * i + transaction_length edition) ≤ length list.now) × (i ≤ 4095) }
-    requires le_participants { (1 ≤ participants) × (participants ≤ 64) × (1 ≤ locations) × (locations ≤ 64) }
-    ensures { result ≡ transaction_cause participants locations i (transaction_given edition list.now i) 0 }
-{
-    match edition {
-        Edition::PathOnly => path_cause(participants, locations, list, i),
-        Edition::WithSeller => sale_cause(participants, locations, list, i),
+    match item {
+        Item::Row => hour_cause::row_cause(sizes, i as u32, exercise_given::row_given(list, i), 0),
+        Item::Transaction(edition) => hour_cause::transaction_cause(
+            sizes,
+            i as u32,
+            exercise_given::transaction_given(edition, list, i),
+            0,
+        ),
     }
-}
-
-// Either of them.
-fn cause_at(
-    transactions: bool,
-    edition: Edition,
-    participants: u64,
-    locations: u64,
-    list: &[u8],
-    i: usize,
-) -> Cause
-    requires edition_in_bounds { (8 * (item_length transactions edition * i + item_length transactions edition) ≤ length list.now) × (i ≤ 4095) }
-    requires le_participants { (1 ≤ participants) × (participants ≤ 64) × (1 ≤ locations) × (locations ≤ 64) }
-    ensures { result ≡ cause_given transactions edition participants locations list.now i }
-{
-    if transactions {
-        return transaction_cause(edition, participants, locations, list, i);
-    }
-    row_cause(participants, locations, list, i)
 }
 
 // The first n of them.
-fn first_cause(
-    transactions: bool,
-    edition: Edition,
-    participants: u64,
-    locations: u64,
-    list: &[u8],
-    n: usize,
-) -> Cause
-    requires n_in_bounds { (8 * (item_length transactions edition * n) ≤ length list.now) × (n ≤ 4095) }
-    requires le_participants { (1 ≤ participants) × (participants ≤ 64) × (1 ≤ locations) × (locations ≤ 64) }
-    ensures { result ≡ first_from (cause_given transactions edition participants locations list.now) 0 n }
+#[tactic(auto, using(hour::proofs::Told::turns))]
+fn first_cause(item: Item, sizes: Sizes, list: &[u8], n: usize) -> Result<(), Cause>
+    requires { (8 * (item_length item * n) ≤ length list.now) × (n ≤ 4095) }
+    ensures { told result ≡ first_from (cause_given item sizes.participants sizes.locations list.now) 0 n }
 {
-    let mut i: usize = 0;
-    while i < n {
-        let cause = cause_at(transactions, edition, participants, locations, list, i);
-        if cause.refusal != 0 {
-            return cause;
-        }
-        i += 1;
+    for i in 0..n {
+        cause_at(item, sizes, list, i)?;
     }
-    hour_cause::none()
+    Ok(())
 }
 
 // ---- all of it
 
-// From the prices to the last transaction, of so many participants, locations, rows and transactions, and an edition's number.
-fn content_cause(
-    participants: usize,
-    locations: usize,
-    rows: usize,
-    transactions: usize,
-    edition: u64,
-    prices: &[u8],
-    row_list: &[u8],
-    transaction_list: &[u8],
-) -> Cause
-    requires le_participants { (1 ≤ participants) × (participants ≤ 64) × (1 ≤ locations) × (locations ≤ 64) × (rows ≤ 2048) × (transactions ≤ 256) }
-    requires locations_in_bounds { (8 * (26 * locations) ≤ length prices.now) × (8 * (6 * rows) ≤ length row_list.now) × (8 * (transaction_length (edition_of edition) * transactions) ≤ length transaction_list.now) }
-    ensures { result ≡ content_cause (hour_given (content (pos participants) (pos locations) (pos rows) (pos transactions) (pos edition) prices.now row_list.now transaction_list.now)) no_spare }
+// From the prices to the last transaction.
+fn content_cause(header: Header, lists: HourLists) -> Result<(), Cause>
+    requires counts { Taken header }
+    requires lists { (8 * (26 * header.locations) ≤ length lists.prices.now) × (8 * (6 * header.rows) ≤ length lists.rows.now) × (8 * (transaction_length (edition_of header.edition) * header.transactions) ≤ length lists.transactions.now) }
+    ensures { told result ≡ content_cause (hour_given (counted header lists.entry)) no_spare }
 {
-    let p = participants as u64;
-    let l = locations as u64;
-    let e = exercise_editions::edition_of(edition);
-    hour_cause::first_of(
-        prices_cause(prices, 26 * locations),
-        hour_cause::first_of(
-            first_cause(false, Edition::PathOnly, p, l, row_list, rows),
-            first_cause(true, e, p, l, transaction_list, transactions),
-        ),
+    let sizes = Sizes {
+        participants: header.participants as u64,
+        locations: header.locations as u64,
+    };
+    let edition = exercise_editions::edition_of(header.edition as u64);
+    prices_cause(lists.prices, 26 * header.locations)?;
+    first_cause(Item::Row, sizes, lists.rows, header.rows)?;
+    first_cause(
+        Item::Transaction(edition),
+        sizes,
+        lists.transactions,
+        header.transactions,
     )
 }
 
 // The lengths, and from the prices to the last transaction.
-fn counted_cause(
-    participants: usize,
-    locations: usize,
-    rows: usize,
-    transactions: usize,
-    edition: u64,
-    prices: &[u8],
-    row_list: &[u8],
-    transaction_list: &[u8],
-) -> Cause
-    requires { (1 ≤ participants) × (participants ≤ 64) × (1 ≤ locations) × (locations ≤ 64) × (rows ≤ 2048) × (transactions ≤ 256) }
-    ensures { result ≡ listed_cause (content (pos participants) (pos locations) (pos rows) (pos transactions) (pos edition) prices.now row_list.now transaction_list.now) }
+#[tactic(auto, using(hour::proofs::Told::tests))]
+fn counted_cause(header: Header, lists: HourLists) -> Result<(), Cause>
+    requires { Taken header }
+    ensures { told result ≡ listed_cause (counted header lists.entry) }
 {
-    let cause = lists_cause(
-        locations,
-        rows,
-        transactions,
-        exercise_editions::edition_of(edition),
-        prices.len(),
-        row_list.len(),
-        transaction_list.len(),
-    );
-    if cause.refusal != 0 {
-        return cause;
-    }
-    content_cause(
-        participants,
-        locations,
-        rows,
-        transactions,
-        edition,
-        prices,
-        row_list,
-        transaction_list,
-    )
+    lists_cause(header, lists)?;
+    content_cause(header, lists)
 }
 
 // All of it, the edition and the counts first.
-pub fn list_cause(
-    participants: i64,
-    locations: i64,
-    rows: i64,
-    transactions: i64,
-    edition: i64,
-    prices: &[u8],
-    row_list: &[u8],
-    transaction_list: &[u8],
-) -> Cause
-    ensures { result ≡ given_cause (content participants locations rows transactions edition prices.now row_list.now transaction_list.now) }
+#[tactic(auto, using(hour::proofs::Told::tests), unfolding(exercise::specs::Cause::given_cause))]
+pub fn list_cause(counts: Counts, lists: HourLists) -> Result<(), Cause>
+    ensures { told result ≡ given_cause (handed_over counts lists.entry) }
 {
-    let cause = counts_cause(participants, locations, rows, transactions, edition);
-    if cause.refusal != 0 {
-        return cause;
-    }
-    counted_cause(
-        participants as usize,
-        locations as usize,
-        rows as usize,
-        transactions as usize,
-        edition as u64,
-        prices,
-        row_list,
-        transaction_list,
-    )
+    counts_cause(counts)?;
+    let header = Header {
+        participants: counts.participants as usize,
+        locations: counts.locations as usize,
+        rows: counts.rows as usize,
+        transactions: counts.transactions as usize,
+        edition: counts.edition as usize,
+    };
+    counted_cause(header, lists)
 }

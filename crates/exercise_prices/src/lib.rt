@@ -4,9 +4,11 @@
 ghost use Rattle.std.specs.Prelude.{◌≡◌, ◌+◌, ◌*◌, ◌≤◌, ◌<◌, length};
 ghost use Rattle.ints.specs.InsideRange.{Within};
 ghost use Rattle.ints.specs.Twos.{twos};
+ghost use Rattle.refusals.specs.Number.{answer};
 ghost use Rattle.exercise.specs.File.{price_at, prices_from};
 ghost use Rattle.exercise.specs.Inside.{prices_in_refusal, prices_from_refusal};
 
+use refusals::Refusal;
 use units::Mills;
 
 // The number of 24 bits: moved up by half of their patterns, they are in the numbers' order.
@@ -22,41 +24,34 @@ pub fn price_at(prices: &[u8], j: usize) -> Mills
     requires { 3 * j + 3 ≤ length prices.now }
     ensures { result.0 ≡ price_at prices.now j }
 {
-    Mills(from_bits(exercise_rows::three_at(prices, 3 * j)))
+    Mills(from_bits(exercise_rows::bytes_at::<3>(prices, 3 * j)))
 }
 
-// A price list, read from price j of a stretch on: its refusal, or 0. It goes to the list's end in any case, and a price that is refused is read, too.
-pub fn read_list(prices: &[u8], j: usize, list: &mut [i32]) -> u32
+// A price list, read from price j of a stretch on. It goes to the list's end in any case, and a price that is refused is read, too.
+pub fn read_list(prices: &[u8], j: usize, list: &mut [i32]) -> Result<(), Refusal>
     requires { 3 * (j + length list.old) ≤ length prices.now }
-    ensures value { result ≡ prices_from_refusal prices.now j (length list.old) }
+    ensures value { answer result ≡ prices_from_refusal prices.now j (length list.old) }
     ensures list_after { list.new ≡ prices_from prices.now j (length list.old) }
 {
     let mut passed = true;
-    let mut i: usize = 0;
-    while i < list.len() {
-        let price = from_bits(exercise_rows::three_at(prices, 3 * (j + i)));
-        list[i] = price as i32;
+    for (i, entry) in list.iter_mut().enumerate() {
+        let price = from_bits(exercise_rows::bytes_at::<3>(prices, 3 * (j + i)));
+        *entry = price as i32;
         passed = ints::both(passed, ints::is_between(price, -5_000_000, 5_000_000));
-        i += 1;
     }
-    if passed {
-        return 0;
+    if !passed {
+        return Err(Refusal::Range);
     }
-    2
+    Ok(())
 }
 
-// The refusal of the first n prices of a stretch, 0 where there is none.
-pub fn prices_refusal(prices: &[u8], n: usize) -> u32
+// What is refused of the first n prices of a stretch.
+pub fn prices_refusal(prices: &[u8], n: usize) -> Result<(), Refusal>
     requires { 3 * n ≤ length prices.now }
-    ensures { result ≡ prices_in_refusal prices.now n }
+    ensures { answer result ≡ prices_in_refusal prices.now n }
 {
-    let mut j: usize = 0;
-    while j < n {
-        let price = price_at(prices, j).0;
-        if !ints::is_between(price, -5_000_000, 5_000_000) {
-            return 2;
-        }
-        j += 1;
+    for j in 0..n {
+        hour_row_refusals::price_refusal(price_at(prices, j).0)?;
     }
-    0
+    Ok(())
 }

@@ -2,11 +2,30 @@
 #![tactic(auto)]
 
 ghost use Rattle.std.specs.Prelude.{◌≡◌, length};
+ghost use Rattle.refusals.specs.Number.{answer};
 ghost use Rattle.exercise.specs.Order.{file_refusal};
 ghost use Rattle.exercise.specs.Reader.{stretch};
 ghost use Rattle.exercise_probe.specs.Inside.{probe_refusal, probe_outcome, rows_outcome};
 
-use exercise::DecodedRow;
+use refusals::Refusal;
+
+// The six numbers of a row of six bytes.
+fn read_alone(
+    participants: i64,
+    locations: i64,
+    row: &[u8],
+    fields: &mut [u8],
+) -> Result<(), Refusal>
+    ensures value { answer result ≡ probe_refusal participants locations row.now (length fields.old) }
+    ensures fields_after { fields.new ≡ probe_outcome participants locations row.now fields.old }
+{
+    let row = exercise_rows::decode_row(participants, locations, row)?;
+    if fields.len() != 48 {
+        return Err(Refusal::Length);
+    }
+    exercise_read::put_row(row, fields);
+    Ok(())
+}
 
 // One row of six bytes; `fields` takes its six numbers.
 #[unsafe(no_mangle)]
@@ -14,15 +33,7 @@ pub extern "C" fn probe_row(participants: i64, locations: i64, row: &[u8], field
     ensures value { result ≡ probe_refusal participants locations row.now (length fields.old) }
     ensures fields_after { fields.new ≡ probe_outcome participants locations row.now fields.old }
 {
-    let decoded = exercise_rows::decode_row(participants, locations, row);
-    let DecodedRow::Decoded(row) = decoded else {
-        return exercise_rows::decoded_row_refusal(decoded);
-    };
-    if fields.len() != 48 {
-        return 1;
-    }
-    exercise_read::put_row(row, fields);
-    0
+    refusals::answer(read_alone(participants, locations, row, fields))
 }
 
 // The check of a file.
@@ -30,22 +41,11 @@ pub extern "C" fn probe_row(participants: i64, locations: i64, row: &[u8], field
 pub extern "C" fn probe_check(file: &[u8]) -> u32
     ensures { result ≡ file_refusal file.now }
 {
-    exercise_file::check(file)
-}
-
-// Every byte of one slice, in another of its length.
-fn copy_bytes(from: &[u8], to: &mut [u8])
-    requires { length to.old ≡ length from.now }
-    ensures { to.new ≡ from.now }
-{
-    let mut i: usize = 0;
-    while i < to.len() {
-        to[i] = from[i];
-        i += 1;
-    }
+    refusals::answer(exercise_file::check(file))
 }
 
 // How many bytes the reader's stretch has; `rows` takes a copy where it has that length.
+#[tactic(auto, unfolding(crate::specs::Inside::rows_outcome))]
 #[unsafe(no_mangle)]
 pub extern "C" fn probe_rows(file: &[u8], rows: &mut [u8]) -> u64
     ensures value { result ≡ length (stretch file.now) }
@@ -53,7 +53,7 @@ pub extern "C" fn probe_rows(file: &[u8], rows: &mut [u8]) -> u64
 {
     let part = exercise_file::rows_stretch(file);
     if rows.len() == part.len() {
-        copy_bytes(part, rows);
+        rows.copy_from_slice(part);
     }
     part.len() as u64
 }

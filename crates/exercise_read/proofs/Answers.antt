@@ -1,6 +1,5 @@
 -- The lists of a file from what code has read of it, and the reader's answers, return by return. Assumes nothing.
 use mathlib.Core.Path.{◌≡◌, sym, ap, ap₂, ◌∙◌}
-use mathlib.Core.Bool.{true, false}
 use mathlib.Core.List.{List}
 use Prim.Native.Nat.{ℕ, ◌*◌}
 use Rattle.ints.specs.Table.{tab}
@@ -13,6 +12,7 @@ use Rattle.exercise.specs.Layout.{edition_of}
 use Rattle.exercise.specs.Lists.{lists_refusal, read_refusal, prices_listed, rows_listed, transactions_listed}
 use Rattle.exercise.specs.Order.{frame_refusal, spare_of}
 use Rattle.exercise.specs.declared.Header.{Header}
+use Rattle.exercise.specs.declared.Item.{Item}
 use Rattle.exercise.specs.declared.Places.{Places}
 use Rattle.exercise.proofs.Content.{four-lists}
 use Rattle.exercise.proofs.Lists.{lists-right}
@@ -27,15 +27,15 @@ module _ (file : List ℕ) (h : Header) (p : Places) (e : h ≡ header file) (f 
       ap₂ (λ (k : Header) (q : Places). encoded (tab (price_at (bytes_from q.prices q.rows file)) (26 * k.locations))) e f
       ∙ ap encoded (four-lists (price_at (price_bytes file)) (header file).locations)
 
-  pub rows_are : (edition : Edition) → listed_at false edition (bytes_from p.rows p.transactions file) h.rows ≡ rows_listed (hour_of file)
-  rows_are edition =
-      ap₂ (λ (k : Header) (q : Places). listed_at false edition (bytes_from q.rows q.transactions file) k.rows) e f
-      ∙ rows-listed edition (row_bytes file) (header file).rows
+  pub rows_are : listed_at Item.Row (bytes_from p.rows p.transactions file) h.rows ≡ rows_listed (hour_of file)
+  rows_are =
+      ap₂ (λ (k : Header) (q : Places). listed_at Item.Row (bytes_from q.rows q.transactions file) k.rows) e f
+      ∙ rows-listed (row_bytes file) (header file).rows
 
-  pub transactions-are : (edition : Edition) → edition ≡ edition_of h.edition → listed_at true edition (bytes_from p.transactions p.end file) h.transactions ≡ transactions_listed (hour_of file)
+  pub transactions-are : (edition : Edition) → edition ≡ edition_of h.edition → listed_at (Item.Transaction edition) (bytes_from p.transactions p.end file) h.transactions ≡ transactions_listed (hour_of file)
   transactions-are edition g =
-      ap (λ (b : Edition). listed_at true b (bytes_from p.transactions p.end file) h.transactions) g
-      ∙ ap₂ (λ (k : Header) (q : Places). listed_at true (edition_of k.edition) (bytes_from q.transactions q.end file) k.transactions) e f
+      ap (λ (b : Edition). listed_at (Item.Transaction b) (bytes_from p.transactions p.end file) h.transactions) g
+      ∙ ap₂ (λ (k : Header) (q : Places). listed_at (Item.Transaction (edition_of k.edition)) (bytes_from q.transactions q.end file) k.transactions) e f
       ∙ transactions-listed (edition_in file) (transaction_bytes file) (header file).transactions
 
 -- ---- the answers, of lists of so many bytes

@@ -1,6 +1,5 @@
 -- A list filled with the numbers of one thing after the other, as many for each; and the lists of a file. Assumes nothing.
 use mathlib.Core.Path.{◌≡◌, refl, sym, ap, ap₂, ◌∙◌}
-use mathlib.Core.Bool.{Bool, true, false}
 use mathlib.Core.List.{List, [], ◌∷◌, ◌++◌, append_assoc, append-nil}
 use Prim.Native.Nat.{ℕ, zero, suc, ◌+◌, ◌*◌, ◌^◌, ◌<◌}
 use native.Mathlib.Nat.{mul-suc}
@@ -17,6 +16,7 @@ use Rattle.numbers.specs.Bytes.{encoded}
 use Rattle.numbers.proofs.Laws.{length-encoded, encoded-append}
 use Rattle.hour.specs.declared.Edition.{Edition}
 use Rattle.exercise.specs.File.{row_at, rows_in, transaction_at, transactions_in}
+use Rattle.exercise.specs.declared.Item.{Item}
 use Rattle.exercise.specs.Inside.{item_length}
 use Rattle.exercise.specs.Lists.{row_numbers, transaction_numbers, in_turns}
 use Rattle.exercise.proofs.Turns.{turns-last, turns-none}
@@ -27,34 +27,34 @@ turns-of : {A : Type 0} (f : A → List ℤ) (g : ℕ → A) (n : ℕ) → in_tu
 turns-of f g zero = turns-none (λ (numbers : List ℤ). numbers) (λ i. f (g i)) ∙ sym (turns-none f g)
 turns-of f g (suc n) = turns-last (λ (numbers : List ℤ). numbers) (λ i. f (g i)) n ∙ ap (λ (t : List ℤ). t ++ f (g n)) (turns-of f g n) ∙ sym (turns-last f g n)
 
-pub rows-listed : (edition : Edition) (s : List ℕ) (n : ℕ) → listed_at false edition s n ≡ encoded (in_turns row_numbers (rows_in s n))
-rows-listed edition s n = ap encoded (turns-of row_numbers (row_at s) n)
+pub rows-listed : (s : List ℕ) (n : ℕ) → listed_at Item.Row s n ≡ encoded (in_turns row_numbers (rows_in s n))
+rows-listed s n = ap encoded (turns-of row_numbers (row_at s) n)
 
-pub transactions-listed : (edition : Edition) (s : List ℕ) (n : ℕ) → listed_at true edition s n ≡ encoded (in_turns (transaction_numbers edition) (transactions_in edition s n))
+pub transactions-listed : (edition : Edition) (s : List ℕ) (n : ℕ) → listed_at (Item.Transaction edition) s n ≡ encoded (in_turns (transaction_numbers edition) (transactions_in edition s n))
 transactions-listed edition s n = ap encoded (turns-of (transaction_numbers edition) (transaction_at edition s) n)
 
-each : (transactions : Bool) (edition : Edition) (s : List ℕ) (i : ℕ) → length (numbers_at transactions edition s i) ≡ item_length transactions edition
-each true Edition.PathOnly s i = refl
-each true Edition.WithSeller s i = refl
-each false edition s i = refl
+each : (item : Item) (s : List ℕ) (i : ℕ) → length (numbers_at item s i) ≡ item_length item
+each Item.Row s i = refl
+each (Item.Transaction Edition.PathOnly) s i = refl
+each (Item.Transaction Edition.WithSeller) s i = refl
 
 -- `size` bytes for each
-module _ (transactions : Bool) (edition : Edition) (size : ℕ) (e : size ≡ 8 * item_length transactions edition) (s out : List ℕ) where
+module _ (item : Item) (size : ℕ) (e : size ≡ 8 * item_length item) (s out : List ℕ) where
   abbrev numbers-at : ℕ → List ℤ
-  numbers-at = numbers_at transactions edition s
+  numbers-at = numbers_at item s
 
   abbrev numbers-to : ℕ → List ℤ
   numbers-to i = in_turns (λ (numbers : List ℤ). numbers) (tab numbers-at i)
 
   abbrev so_far : ℕ → List ℕ
-  so_far i = listed_at transactions edition s i
+  so_far i = listed_at item s i
 
   long : (i : ℕ) → length (so_far i) ≡ size * i
   long zero = ap (λ (l : List ℤ). length (encoded l)) (turns-none (λ (numbers : List ℤ). numbers) numbers-at) ∙ length-encoded [] ∙ omega arith
   long (suc i) =
       ap (λ (l : List ℤ). length (encoded l)) (turns-last (λ (numbers : List ℤ). numbers) numbers-at i)
       ∙ length-encoded (numbers-to i ++ numbers-at i)
-      ∙ omega (arith, e, mul-suc size i, length-append (numbers-to i) (numbers-at i), each transactions edition s i, length-encoded (numbers-to i), long i)
+      ∙ omega (arith, e, mul-suc size i, length-append (numbers-to i) (numbers-at i), each item s i, length-encoded (numbers-to i), long i)
 
   -- before the first, one more, after the last
   pub fill_none : out ≡ so_far 0 ++ drop (size * 0) out

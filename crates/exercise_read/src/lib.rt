@@ -4,6 +4,7 @@
 ghost use Rattle.std.specs.Prelude.{◌≡◌, ◌+◌, ◌*◌, ◌≤◌, length};
 ghost use Rattle.ints.specs.Refusal.{lent};
 ghost use Rattle.ints.specs.Table.{tab};
+ghost use Rattle.refusals.specs.Number.{answer};
 ghost use Rattle.numbers.specs.Bytes.{encoded};
 ghost use Rattle.exercise.specs.File.{header, price_at, hour_of};
 ghost use Rattle.exercise.specs.Lists.{count_numbers, file_counts_refusal, file_counts_outcome, read_refusal, row_numbers, transaction_length, transaction_numbers, prices_listed, rows_listed, transactions_listed};
@@ -11,8 +12,9 @@ ghost use Rattle.exercise.specs.Inside.{Small, item_size, item_length};
 ghost use Rattle.exercise_read.specs.Inside.{numbers_at, listed_at, Long};
 ghost use Rattle.hour.specs.declared.Edition.TheVariants as Edition;
 
-use exercise::Header;
+use exercise::{Header, Item, Places};
 use hour::{Edition, Row, Transaction};
+use refusals::Refusal;
 
 // The six numbers of a row.
 pub fn put_row(row: Row, list: &mut [u8])
@@ -30,7 +32,7 @@ pub fn put_row(row: Row, list: &mut [u8])
     numbers::write_all(&six, list);
 }
 
-// Those of a transaction that is a path alone.
+// Those of a transaction that is a path alone. A sale has one number more in their midst, so that one list for both would be made by the edition, too.
 fn put_path(transaction: Transaction, list: &mut [u8])
     requires { length list.old ≡ 48 }
     ensures { list.new ≡ encoded (transaction_numbers Edition.PathOnly transaction) }
@@ -74,36 +76,33 @@ fn put_transaction(edition: Edition, transaction: Transaction, list: &mut [u8])
     }
 }
 
-// Those of row i of a stretch of rows, or of transaction i of a stretch of transactions.
-fn put_at(transactions: bool, edition: Edition, stretch: &[u8], i: usize, list: &mut [u8])
-    requires edition_in_bounds { item_size transactions edition * i + item_size transactions edition ≤ length stretch.now }
-    requires list_len { length list.old ≡ 8 * item_length transactions edition }
-    ensures { list.new ≡ encoded (numbers_at transactions edition stretch.now i) }
+// Those of item i of a stretch.
+fn put_at(item: Item, stretch: &[u8], i: usize, list: &mut [u8])
+    requires item_in_bounds { item_size item * i + item_size item ≤ length stretch.now }
+    requires list_len { length list.old ≡ 8 * item_length item }
+    ensures { list.new ≡ encoded (numbers_at item stretch.now i) }
 {
-    if transactions {
-        put_transaction(
+    match item {
+        Item::Row => put_row(exercise_rows::read_row(stretch, i), list),
+        Item::Transaction(edition) => put_transaction(
             edition,
             exercise_rows::read_transaction(edition, stretch, i),
             list,
-        );
-    } else {
-        put_row(exercise_rows::read_row(stretch, i), list);
+        ),
     }
 }
 
 // Those of the first n.
-fn put_all(transactions: bool, edition: Edition, stretch: &[u8], n: usize, list: &mut [u8])
-    requires n_in_bounds { item_size transactions edition * n ≤ length stretch.now }
-    requires list_len { length list.old ≡ 8 * (item_length transactions edition * n) }
-    ensures { list.new ≡ listed_at transactions edition stretch.now n }
+fn put_all(item: Item, stretch: &[u8], n: usize, list: &mut [u8])
+    requires n_in_bounds { item_size item * n ≤ length stretch.now }
+    requires list_len { length list.old ≡ 8 * (item_length item * n) }
+    ensures { list.new ≡ listed_at item stretch.now n }
 {
-    let each = 8 * exercise_editions::item_length(transactions, edition);
-    let mut i: usize = 0;
-    while i < n {
+    let each = 8 * exercise_editions::item_length(item);
+    for i in 0..n {
         let from = each * i;
         let to = from + each;
-        put_at(transactions, edition, stretch, i, &mut list[from..to]);
-        i += 1;
+        put_at(item, stretch, i, &mut list[from..to]);
     }
 }
 
@@ -112,10 +111,8 @@ fn put_prices(stretch: &[u8], n: usize, list: &mut [u8])
     requires { (3 * n ≤ length stretch.now) × (length list.old ≡ 8 * n) }
     ensures { list.new ≡ encoded (tab (price_at stretch.now) n) }
 {
-    let mut j: usize = 0;
-    while j < n {
+    for j in 0..n {
         numbers::put_number(list, j, exercise_prices::price_at(stretch, j).0);
-        j += 1;
     }
 }
 
@@ -127,22 +124,22 @@ fn put_lists(file: &[u8], prices: &mut [u8], row_list: &mut [u8], transaction_li
     ensures transaction_list_after { transaction_list.new ≡ transactions_listed (hour_of file.now) }
 {
     let header = exercise_file::read_header(file);
-    let places = exercise_file::places_of(header);
-    let prices_at = places.prices;
-    let rows_at = places.rows;
-    let transactions_at = places.transactions;
-    let end = places.end;
+    let Places {
+        prices: prices_at,
+        rows: rows_at,
+        transactions: transactions_at,
+        end,
+    } = exercise_file::places_of(header);
     put_prices(&file[prices_at..rows_at], 26 * header.locations, prices);
     put_all(
-        false,
-        Edition::PathOnly,
+        Item::Row,
         &file[rows_at..transactions_at],
         header.rows,
         row_list,
     );
+    let edition = exercise_editions::edition_of(header.edition as u64);
     put_all(
-        true,
-        exercise_editions::edition_of(header.edition as u64),
+        Item::Transaction(edition),
         &file[transactions_at..end],
         header.transactions,
         transaction_list,
@@ -155,35 +152,18 @@ pub fn read_file(
     prices: &mut [u8],
     row_list: &mut [u8],
     transaction_list: &mut [u8],
-) -> u32
-    ensures value { result ≡ read_refusal file.now (length prices.old) (length row_list.old) (length transaction_list.old) }
-    ensures prices_after { prices.new ≡ lent result (prices_listed (hour_of file.now)) prices.old }
-    ensures row_list_after { row_list.new ≡ lent result (rows_listed (hour_of file.now)) row_list.old }
-    ensures transaction_list_after { transaction_list.new ≡ lent result (transactions_listed (hour_of file.now)) transaction_list.old }
+) -> Result<(), Refusal>
+    ensures value { answer result ≡ read_refusal file.now (length prices.old) (length row_list.old) (length transaction_list.old) }
+    ensures prices_after { prices.new ≡ lent (answer result) (prices_listed (hour_of file.now)) prices.old }
+    ensures row_list_after { row_list.new ≡ lent (answer result) (rows_listed (hour_of file.now)) row_list.old }
+    ensures transaction_list_after { transaction_list.new ≡ lent (answer result) (transactions_listed (hour_of file.now)) transaction_list.old }
 {
-    let refusal = exercise_file::frame_refusal(file);
-    if refusal != 0 {
-        return refusal;
-    }
+    exercise_file::frame_refusal(file)?;
     let header = exercise_file::read_header(file);
-    let refusal = exercise_lists::lists_refusal(
-        header.locations,
-        header.rows,
-        header.transactions,
-        exercise_editions::edition_of(header.edition as u64),
-        prices.len(),
-        row_list.len(),
-        transaction_list.len(),
-    );
-    if refusal != 0 {
-        return refusal;
-    }
-    let refusal = exercise_file::content_refusal(file);
-    if refusal != 0 {
-        return refusal;
-    }
+    exercise_lists::lists_refusal(header, prices.len(), row_list.len(), transaction_list.len())?;
+    exercise_file::content_refusal(file)?;
     put_lists(file, prices, row_list, transaction_list);
-    0
+    Ok(())
 }
 
 // ---- counts
@@ -205,17 +185,14 @@ fn put_counts(header: Header, counts: &mut [u8])
 }
 
 // The counts and the edition of a file that passes the order to its length, or its refusal.
-pub fn read_counts(file: &[u8], counts: &mut [u8]) -> u32
-    ensures value { result ≡ file_counts_refusal file.now (length counts.old) }
+pub fn read_counts(file: &[u8], counts: &mut [u8]) -> Result<(), Refusal>
+    ensures value { answer result ≡ file_counts_refusal file.now (length counts.old) }
     ensures counts_after { counts.new ≡ file_counts_outcome file.now counts.old }
 {
-    let refusal = exercise_file::frame_refusal(file);
-    if refusal != 0 {
-        return refusal;
-    }
+    exercise_file::frame_refusal(file)?;
     if counts.len() != 40 {
-        return 1;
+        return Err(Refusal::Length);
     }
     put_counts(exercise_file::read_header(file), counts);
-    0
+    Ok(())
 }

@@ -2,56 +2,33 @@
 // turn.
 #![tactic(auto)]
 
-ghost use Rattle.std.specs.Prelude.{◌≡◌, ◌+◌, ◌*◌, ◌≤◌, ◌<◌, length};
+ghost use Rattle.std.specs.Prelude.{◌≡◌, ◌+◌, ◌*◌, ◌^◌, ◌≤◌, ◌<◌, length};
 ghost use Rattle.ints.specs.Turn.{in_turn};
 ghost use Rattle.exercise.specs.Packed.{bytes_at};
 ghost use Rattle.hour.specs.declared.Edition.TheVariants as Edition;
 ghost use Rattle.exercise.specs.File.{row_of, row_at, row_spare, packed_row, transaction_of, transaction_at, transaction_spare, packed_transaction};
 ghost use Rattle.exercise.specs.Layout.{transaction_size};
 ghost use Rattle.exercise.specs.Order.{transaction_refusal_at};
-ghost use Rattle.exercise.specs.Decoding.{decoded_row_refusal, decoded_transaction_refusal, given_refusal, decoded_row, decoded_transaction};
+ghost use Rattle.exercise.specs.Decoding.{given_refusal, decoded_row, decoded_transaction};
 ghost use Rattle.exercise_rows.specs.Inside.{refusal_at, alone_refusal};
+ghost use Rattle.refusals.specs.Number.{answer, numbered};
 ghost use Rattle.exercise.specs.Inside.{item_size, decoded_row_at, decoded_transaction_at, rows_in_refusal, transactions_in_refusal};
 
-use exercise::{DecodedRow, DecodedTransaction};
+use exercise::Item;
 use hour::{Edition, Row, Transaction};
+use refusals::Refusal;
 use units::Kw;
 
-// The three bytes from k on, the first highest.
-pub fn three_at(s: &[u8], k: usize) -> u64
-    requires { k + 3 ≤ length s.now }
-    ensures { result ≡ bytes_at s.now k 3 × (result < 16777216) }
+// The N bytes from k on as one number, the first highest.
+pub fn bytes_at<const N: usize>(s: &[u8], k: usize) -> u64
+    requires { (k + N ≤ length s.now) × (N ≤ 7) }
+    ensures { result ≡ bytes_at s.now k N × (result < 256 ^ N) }
 {
-    65536 * ints::wide(s[k]) + 256 * ints::wide(s[k + 1]) + ints::wide(s[k + 2])
-}
-
-// The two, four, six and seven bytes from k on, the first highest. In twos, so that they are read as words.
-fn two_at(s: &[u8], k: usize) -> u64
-    requires { k + 2 ≤ length s.now }
-    ensures { result ≡ bytes_at s.now k 2 × (result < 65536) }
-{
-    256 * ints::wide(s[k]) + ints::wide(s[k + 1])
-}
-
-fn four_at(s: &[u8], k: usize) -> u64
-    requires { k + 4 ≤ length s.now }
-    ensures { result ≡ bytes_at s.now k 4 × (result < 4294967296) }
-{
-    65536 * two_at(s, k) + two_at(s, k + 2)
-}
-
-fn six_at(s: &[u8], k: usize) -> u64
-    requires { k + 6 ≤ length s.now }
-    ensures { result ≡ bytes_at s.now k 6 × (result < 281474976710656) }
-{
-    65536 * four_at(s, k) + two_at(s, k + 4)
-}
-
-fn seven_at(s: &[u8], k: usize) -> u64
-    requires { k + 7 ≤ length s.now }
-    ensures { result ≡ bytes_at s.now k 7 }
-{
-    256 * six_at(s, k) + ints::wide(s[k + 6])
+    let mut v: u64 = 0;
+    for i in 0..N {
+        v = 256 * v + u64::from(s[k + i]);
+    }
+    v
 }
 
 // ---- rows
@@ -75,7 +52,7 @@ pub fn read_row(rows: &[u8], i: usize) -> Row
     requires { 6 * i + 6 ≤ length rows.now }
     ensures { result ≡ row_at rows.now i }
 {
-    row_of(six_at(rows, 6 * i))
+    row_of(bytes_at::<6>(rows, 6 * i))
 }
 
 // Its spare bits.
@@ -83,31 +60,18 @@ pub fn row_spare(rows: &[u8], i: usize) -> u64
     requires { 6 * i + 6 ≤ length rows.now }
     ensures { result ≡ row_spare (packed_row rows.now i) }
 {
-    six_at(rows, 6 * i) / 1 % 8
+    bytes_at::<6>(rows, 6 * i) / 1 % 8
 }
 
 // The same, tested.
-pub fn row_at(participants: usize, locations: usize, rows: &[u8], i: usize) -> DecodedRow
+pub fn row_at(participants: usize, locations: usize, rows: &[u8], i: usize) -> Result<Row, Refusal>
     requires { 6 * i + 6 ≤ length rows.now }
-    ensures { result ≡ decoded_row_at participants locations rows.now i }
+    ensures { numbered result ≡ decoded_row_at participants locations rows.now i }
 {
-    let v = six_at(rows, 6 * i);
+    let v = bytes_at::<6>(rows, 6 * i);
     let row = row_of(v);
-    let refusal = hour_row_refusals::packed_row_refusal(participants, locations, row, v / 1 % 8);
-    if refusal != 0 {
-        return DecodedRow::Refused(refusal);
-    }
-    DecodedRow::Decoded(row)
-}
-
-// The number of the refusal; 0 for a row.
-pub fn decoded_row_refusal(decoded: DecodedRow) -> u32
-    ensures { result ≡ decoded_row_refusal decoded }
-{
-    match decoded {
-        DecodedRow::Decoded(_) => 0,
-        DecodedRow::Refused(refusal) => refusal,
-    }
+    hour_row_refusals::packed_row_refusal(participants, locations, row, v / 1 % 8)?;
+    Ok(row)
 }
 
 // ---- transactions
@@ -118,12 +82,12 @@ fn packed_transaction(edition: Edition, transactions: &[u8], i: usize) -> u64
     ensures { result ≡ packed_transaction edition transactions.now i }
 {
     match edition {
-        Edition::PathOnly => six_at(transactions, 6 * i),
-        Edition::WithSeller => seven_at(transactions, 7 * i),
+        Edition::PathOnly => bytes_at::<6>(transactions, 6 * i),
+        Edition::WithSeller => bytes_at::<7>(transactions, 7 * i),
     }
 }
 
-// The transaction of 48 bits, a path alone: it has no seller.
+// The transaction of 48 bits, a path alone: it has no seller. One function for both layouts would choose six divisors by the edition, and be no shorter.
 fn path_of(v: u64) -> Transaction
     ensures { result ≡ transaction_of Edition.PathOnly v }
 {
@@ -195,47 +159,33 @@ pub fn transaction_at(
     locations: usize,
     transactions: &[u8],
     i: usize,
-) -> DecodedTransaction
+) -> Result<Transaction, Refusal>
     requires { transaction_size edition * i + transaction_size edition ≤ length transactions.now }
-    ensures { result ≡ decoded_transaction_at edition participants locations transactions.now i }
+    ensures { numbered result ≡ decoded_transaction_at edition participants locations transactions.now i }
 {
     let v = packed_transaction(edition, transactions, i);
     let transaction = transaction_of(edition, v);
-    let refusal = hour_row_refusals::packed_transaction_refusal(
+    hour_row_refusals::packed_transaction_refusal(
         participants,
         locations,
         transaction,
         spare_of(edition, v),
-    );
-    if refusal != 0 {
-        return DecodedTransaction::Refused(refusal);
-    }
-    DecodedTransaction::Decoded(transaction)
-}
-
-// The number of the refusal; 0 for a transaction.
-pub fn decoded_transaction_refusal(decoded: DecodedTransaction) -> u32
-    ensures { result ≡ decoded_transaction_refusal decoded }
-{
-    match decoded {
-        DecodedTransaction::Decoded(_) => 0,
-        DecodedTransaction::Refused(refusal) => refusal,
-    }
+    )?;
+    Ok(transaction)
 }
 
 // ---- refusals of rows, or of transactions, in turn
 
-// The refusal of transaction i of a stretch, 0 where there is none. It is tested here by itself, so that `transaction_at` has one
-// caller, the loop that charges, and becomes part of it.
+// What is refused of transaction i of a stretch. It is tested here by itself, so that `transaction_at` has one caller, the loop that charges, and becomes part of it.
 fn transaction_refusal(
     edition: Edition,
     participants: usize,
     locations: usize,
     transactions: &[u8],
     i: usize,
-) -> u32
+) -> Result<(), Refusal>
     requires { transaction_size edition * i + transaction_size edition ≤ length transactions.now }
-    ensures { result ≡ transaction_refusal_at edition participants locations transactions.now i }
+    ensures { answer result ≡ transaction_refusal_at edition participants locations transactions.now i }
 {
     let v = packed_transaction(edition, transactions, i);
     hour_row_refusals::packed_transaction_refusal(
@@ -246,53 +196,56 @@ fn transaction_refusal(
     )
 }
 
-// The refusal of row i of a stretch, or of transaction i; 0 where there is none.
+// What is refused of item i of a stretch.
 fn refusal_at(
-    transactions: bool,
-    edition: Edition,
+    item: Item,
     participants: usize,
     locations: usize,
     stretch: &[u8],
     i: usize,
-) -> u32
-    requires { item_size transactions edition * i + item_size transactions edition ≤ length stretch.now }
-    ensures { result ≡ refusal_at transactions edition participants locations stretch.now i }
+) -> Result<(), Refusal>
+    requires { item_size item * i + item_size item ≤ length stretch.now }
+    ensures { answer result ≡ refusal_at item participants locations stretch.now i }
 {
-    if transactions {
-        return transaction_refusal(edition, participants, locations, stretch, i);
+    match item {
+        Item::Row => {
+            row_at(participants, locations, stretch, i)?;
+            Ok(())
+        }
+        Item::Transaction(edition) => {
+            transaction_refusal(edition, participants, locations, stretch, i)
+        }
     }
-    decoded_row_refusal(row_at(participants, locations, stretch, i))
 }
 
-// The refusal of the first n of a stretch in turn; 0 where there is none.
+// What is refused of the first n items of a stretch in turn. n counts items, and the stretch bytes: cut to its length, it would have to be divided.
 fn refusal_in_turn(
-    transactions: bool,
-    edition: Edition,
+    item: Item,
     participants: usize,
     locations: usize,
     stretch: &[u8],
     n: usize,
-) -> u32
-    requires { item_size transactions edition * n ≤ length stretch.now }
-    ensures { result ≡ in_turn (refusal_at transactions edition participants locations stretch.now) n }
+) -> Result<(), Refusal>
+    requires { item_size item * n ≤ length stretch.now }
+    ensures { answer result ≡ in_turn (refusal_at item participants locations stretch.now) n }
 {
-    let mut i: usize = 0;
-    while i < n {
-        let refusal = refusal_at(transactions, edition, participants, locations, stretch, i);
-        if refusal != 0 {
-            return refusal;
-        }
-        i += 1;
+    for i in 0..n {
+        refusal_at(item, participants, locations, stretch, i)?;
     }
-    0
+    Ok(())
 }
 
 // The same of rows, which both editions have alike.
-pub fn rows_refusal(participants: usize, locations: usize, rows: &[u8], n: usize) -> u32
+pub fn rows_refusal(
+    participants: usize,
+    locations: usize,
+    rows: &[u8],
+    n: usize,
+) -> Result<(), Refusal>
     requires { 6 * n ≤ length rows.now }
-    ensures { result ≡ rows_in_refusal participants locations rows.now n }
+    ensures { answer result ≡ rows_in_refusal participants locations rows.now n }
 {
-    refusal_in_turn(false, Edition::PathOnly, participants, locations, rows, n)
+    refusal_in_turn(Item::Row, participants, locations, rows, n)
 }
 
 // The same of transactions.
@@ -302,65 +255,57 @@ pub fn transactions_refusal(
     locations: usize,
     transactions: &[u8],
     n: usize,
-) -> u32
+) -> Result<(), Refusal>
     requires { transaction_size edition * n ≤ length transactions.now }
-    ensures { result ≡ transactions_in_refusal edition participants locations transactions.now n }
+    ensures { answer result ≡ transactions_in_refusal edition participants locations transactions.now n }
 {
-    refusal_in_turn(true, edition, participants, locations, transactions, n)
+    refusal_in_turn(
+        Item::Transaction(edition),
+        participants,
+        locations,
+        transactions,
+        n,
+    )
 }
 
 // ---- one row, or one transaction, by itself
 
-// The refusal of the counts and the number of bytes, 0 where there is none.
-fn given_refusal(participants: i64, locations: i64, bytes: usize, size: usize) -> u32
-    ensures { result ≡ given_refusal participants locations bytes size }
-{
-    if !ints::is_between(participants, 1, 64) {
-        return 1;
-    }
-    if !ints::is_between(locations, 1, 64) {
-        return 1;
-    }
-    if bytes != size {
-        return 9;
-    }
-    0
-}
-
-// The refusal of a row, or a transaction, by itself; 0 where there is none.
-fn alone_refusal(
-    transactions: bool,
-    edition: Edition,
+// What is refused of the counts and the number of bytes.
+fn given_refusal(
     participants: i64,
     locations: i64,
-    bytes: &[u8],
-) -> u32
-    ensures { result ≡ alone_refusal transactions edition participants locations bytes.now }
+    bytes: usize,
+    size: usize,
+) -> Result<(), Refusal>
+    ensures { answer result ≡ given_refusal participants locations bytes size }
 {
-    let size = exercise_editions::item_size(transactions, edition);
-    let refusal = given_refusal(participants, locations, bytes.len(), size);
-    if refusal != 0 {
-        return refusal;
+    if !ints::is_between(participants, 1, 64) {
+        return Err(Refusal::Length);
     }
-    refusal_at(
-        transactions,
-        edition,
-        participants as usize,
-        locations as usize,
-        bytes,
-        0,
-    )
+    if !ints::is_between(locations, 1, 64) {
+        return Err(Refusal::Length);
+    }
+    if bytes != size {
+        return Err(Refusal::File);
+    }
+    Ok(())
+}
+
+// What is refused of an item by itself.
+fn alone_refusal(item: Item, participants: i64, locations: i64, bytes: &[u8]) -> Result<(), Refusal>
+    ensures { answer result ≡ alone_refusal item participants locations bytes.now }
+{
+    let size = exercise_editions::item_size(item);
+    given_refusal(participants, locations, bytes.len(), size)?;
+    refusal_at(item, participants as usize, locations as usize, bytes, 0)
 }
 
 // One row of six bytes.
-pub fn decode_row(participants: i64, locations: i64, row: &[u8]) -> DecodedRow
-    ensures { result ≡ decoded_row participants locations row.now }
+pub fn decode_row(participants: i64, locations: i64, row: &[u8]) -> Result<Row, Refusal>
+    ensures { numbered result ≡ decoded_row participants locations row.now }
 {
-    let refusal = alone_refusal(false, Edition::PathOnly, participants, locations, row);
-    if refusal != 0 {
-        return DecodedRow::Refused(refusal);
-    }
-    DecodedRow::Decoded(read_row(row, 0))
+    alone_refusal(Item::Row, participants, locations, row)?;
+    Ok(read_row(row, 0))
 }
 
 // One transaction, of six bytes or seven.
@@ -369,12 +314,14 @@ pub fn decode_transaction(
     participants: i64,
     locations: i64,
     transaction: &[u8],
-) -> DecodedTransaction
-    ensures { result ≡ decoded_transaction edition participants locations transaction.now }
+) -> Result<Transaction, Refusal>
+    ensures { numbered result ≡ decoded_transaction edition participants locations transaction.now }
 {
-    let refusal = alone_refusal(true, edition, participants, locations, transaction);
-    if refusal != 0 {
-        return DecodedTransaction::Refused(refusal);
-    }
-    DecodedTransaction::Decoded(read_transaction(edition, transaction, 0))
+    alone_refusal(
+        Item::Transaction(edition),
+        participants,
+        locations,
+        transaction,
+    )?;
+    Ok(read_transaction(edition, transaction, 0))
 }

@@ -1,6 +1,6 @@
 -- Content that was tested is ready to be written, what is stored is its file, and what the writer answers, return by return. Assumes nothing.
 use mathlib.Core.Path.{◌≡◌, refl, sym, ap, ap₂, ◌∙◌, subst}
-use mathlib.Core.Bool.{Bool, true, false}
+use mathlib.Core.Bool.{Bool}
 use mathlib.Core.List.{List, [], ◌∷◌, ◌++◌}
 use Prim.Native.Nat.{ℕ, zero, suc, ◌+◌, ◌*◌, ◌≤◌, ◌<◌}
 use native.Mathlib.Nat.{zero-add}
@@ -24,7 +24,9 @@ use Rattle.numbers.specs.Bytes.{number_at}
 use Rattle.hour.specs.Hour.{Hour}
 use Rattle.hour.specs.Order.{content_refusal}
 use Rattle.hour.specs.declared.Edition.{Edition}
-use Rattle.exercise.specs.Inside.{header_bits, item_size}
+use Rattle.exercise.specs.Inside.{header_bits}
+use Rattle.exercise.specs.declared.Header.{Header}
+use Rattle.exercise.specs.declared.Item.{Item}
 use Rattle.exercise.specs.Layout.{transaction_size, edition_of}
 use Rattle.exercise.specs.Lists.{Content, content, row_given, transaction_length, transaction_given, hour_given, counts_refusal, lists_refusal, no_spare, write_refusal, write_outcome}
 use Rattle.exercise.specs.Written.{packed, bytes_high, run, price_bits, row_fields, transaction_fields, file_of, Fit, FitsFields}
@@ -33,15 +35,10 @@ use Rattle.exercise.proofs.Exact.{passes-fits}
 use Rattle.exercise.proofs.Lists.{right, hour-counts, lists-right, write-rest}
 use Rattle.exercise.proofs.Packing.{length_high}
 use Rattle.exercise.proofs.Runs.{length_run, run-append, run-one}
-use Rattle.exercise.proofs.Whole.{number_of, sized}
+use Rattle.exercise.proofs.Whole.{number_of}
 use Rattle.exercise.proofs.Written.{written-length}
 use Rattle.exercise_write.specs.Inside.{fields_given, FieldsFit, PricesFit, HeaderFits, Ready}
 use Rattle.exercise_write.proofs.Stores.{file-stores}
-
--- an item has six or seven bytes
-pub item-sized : (transactions : Bool) (edition : Edition) → (6 ≤ item_size transactions edition) × (item_size transactions edition ≤ 7)
-item-sized true edition = sized edition
-item-sized false edition = (omega arith, omega arith)
 
 -- things by another name in a run
 run_of : {A B : Type 0} (size : ℕ) (bits : B → ℕ) (g : A → B) (f : ℕ → A) (n : ℕ) → run size bits (tab (λ i. g (f i)) n) ≡ run size (λ x. bits (g x)) (tab f n)
@@ -72,10 +69,10 @@ module _ (p l n m e : ℕ) (prices row_list transaction_list : List ℕ) where
     pub prices-fit : PricesFit prices (26 * l)
     prices-fit = record { each = tab-every (InBits 24) (number_at prices) (26 * l) (subst (Every (InBits 24)) (sym (four-lists (number_at prices) l)) f.prices) }
 
-    pub rows_fit : FieldsFit false Edition.PathOnly row_list n
+    pub rows_fit : FieldsFit Item.Row row_list n
     rows_fit = record { each = tab-every (λ row. Fit (row_fields row)) (row_given row_list) n f.rows }
 
-    pub transactions-fit : FieldsFit true edition transaction_list m
+    pub transactions-fit : FieldsFit (Item.Transaction edition) transaction_list m
     transactions-fit = record { each = tab-every (λ t. Fit (transaction_fields edition t)) (transaction_given edition transaction_list) m f.transactions }
 
   -- ---- what is stored
@@ -83,7 +80,7 @@ module _ (p l n m e : ℕ) (prices row_list transaction_list : List ℕ) where
   abbrev stored : List ℕ
   stored =
       bytes_high 5 (header_bits p l n m e)
-      ++ (run 3 price_bits (tab (number_at prices) (26 * l)) ++ (run 6 packed (tab (fields_given false Edition.PathOnly row_list) n) ++ run size packed (tab (fields_given true edition transaction_list) m)))
+      ++ (run 3 price_bits (tab (number_at prices) (26 * l)) ++ (run 6 packed (tab (fields_given Item.Row row_list) n) ++ run size packed (tab (fields_given (Item.Transaction edition) transaction_list) m)))
 
   stored_is : e ≤ 1 → stored ≡ file_of hour
   stored_is known =
@@ -95,13 +92,13 @@ module _ (p l n m e : ℕ) (prices row_list transaction_list : List ℕ) where
 
   -- the four parts where they lie
   pub put-stores : e ≤ 1 → (out : List ℕ) (a b : ℕ) → a ≡ 5 + 3 * (26 * l) → b ≡ a + 6 * n
-      → sets (sets (sets (sets out 0 (bytes_high 5 (header_bits p l n m e))) 5 (run 3 price_bits (tab (number_at prices) (26 * l)))) a (run 6 packed (tab (fields_given false Edition.PathOnly row_list) n))) b (run size packed (tab (fields_given true edition transaction_list) m))
+      → sets (sets (sets (sets out 0 (bytes_high 5 (header_bits p l n m e))) 5 (run 3 price_bits (tab (number_at prices) (26 * l)))) a (run 6 packed (tab (fields_given Item.Row row_list) n))) b (run size packed (tab (fields_given (Item.Transaction edition) transaction_list) m))
       ≡ sets out 0 (file_of hour)
   put-stores known out a b f g =
-      file-stores out (bytes_high 5 (header_bits p l n m e)) (run 3 price_bits (tab (number_at prices) (26 * l))) (run 6 packed (tab (fields_given false Edition.PathOnly row_list) n)) (run size packed (tab (fields_given true edition transaction_list) m)) 5 a b
+      file-stores out (bytes_high 5 (header_bits p l n m e)) (run 3 price_bits (tab (number_at prices) (26 * l))) (run 6 packed (tab (fields_given Item.Row row_list) n)) (run size packed (tab (fields_given (Item.Transaction edition) transaction_list) m)) 5 a b
       (length_high 5 (header_bits p l n m e))
       (omega (arith, length_run 3 price_bits (tab (number_at prices) (26 * l)), length-tab (number_at prices) (26 * l)))
-      (omega (arith, length_run 6 packed (tab (fields_given false Edition.PathOnly row_list) n), length-tab (fields_given false Edition.PathOnly row_list) n))
+      (omega (arith, length_run 6 packed (tab (fields_given Item.Row row_list) n), length-tab (fields_given Item.Row row_list) n))
       ∙ ap (sets out 0) (stored_is known)
 
   -- ---- the answers
@@ -116,7 +113,10 @@ module _ (p l n m e : ℕ) (prices row_list transaction_list : List ℕ) where
         ap (λ (k : ℕ). size * k) (length-tab (transaction_given edition transaction_list) m),
       )
 
-  module _ (h : HeaderFits p l n m e) where
+  abbrev header : Header
+  header = record { participants = p; locations = l; rows = n; transactions = m; edition = e }
+
+  module _ (h : HeaderFits header) where
     counts-taken : counts_refusal (pos p) (pos l) (pos n) (pos m) (pos e) ≡ 0
     unfolding counts_refusal
     counts-taken =
@@ -159,7 +159,7 @@ module _ (p l n m e : ℕ) (prices row_list transaction_list : List ℕ) where
           write-short k = refused answer _ before 0 (sym (last ∙ ap (λ (b : Bool). unless b 1 0) (lt-leb (length (file_of hour)) (length before) (omega (arith, file-length)))))
 
           module _ (k : 5 + 3 * (26 * l) + 6 * n + size * m ≤ length before) where
-            pub write-ready : Ready p l n m e prices row_list transaction_list (length before)
+            pub write-ready : Ready header prices row_list transaction_list (length before)
             write-ready =
                 record {
                   header = h;

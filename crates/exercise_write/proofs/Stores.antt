@@ -1,13 +1,17 @@
 -- Bytes stored into a lent list, as code stores them. Assumes nothing.
 use mathlib.Core.Path.{◌≡◌, refl, sym, ap, ap₂, ◌∙◌}
 use mathlib.Core.List.{List, [], ◌∷◌, ◌++◌, append_assoc, append-nil}
-use Prim.Native.Nat.{ℕ, zero, suc, ◌+◌, ◌*◌, ◌/◌, ◌%◌, ◌-◌, ◌^◌}
+use Prim.Native.Nat.{ℕ, zero, suc, ◌+◌, ◌*◌, ◌/◌, ◌%◌, ◌-◌, ◌^◌, ◌≤◌}
 use native.Mathlib.Nat.{div-div-eq-div-mul, pow-suc}
 use native.Mathlib.Numerals.{add-one}
 use native.Mathlib.Omega.{arith}
 use lib.IntN.{ℤ, pos, negsuc}
-use lib.ListN.{length, set}
-use lib.Seq.{sets}
+use lib.ListN.{length, take, drop}
+use lib.Seq.{sets, sets-eq, take_all}
+use mir.Syntax.{w64}
+use borrow.Rule.Slice.PartMut.{put_mid}
+use Rattle.std.specs.Int.{to_be_bytes}
+use Rattle.std.proofs.Math.Seq.{drop-append_seam, drop-drop}
 use Rattle.ints.specs.Table.{tab}
 use Rattle.ints.specs.Twos.{bits_of, InBits}
 use Rattle.ints.proofs.Stores.{sets_more}
@@ -16,17 +20,7 @@ use Rattle.exercise.specs.Written.{bytes_high, run, price_bits}
 use Rattle.exercise.proofs.Packing.{length_high}
 use Rattle.exercise.proofs.Runs.{length_run, run-append, run-one}
 
--- ---- three bytes, six, seven, and five
-
-high-three : (v : ℕ) → bytes_high 3 v ≡ v / 65536 % 256 ∷ v / 256 % 256 ∷ v % 256 ∷ []
-unfolding bytes_high
-high-three v = simp div-div-eq-div-mul
-
-pub three-stores : (l : List ℕ) (k v : ℕ) → set (set (set l k (v / 65536 % 256)) (k + 1) (v / 256 % 256)) (k + 2) (v % 256) ≡ sets l k (bytes_high 3 v)
-three-stores l k v =
-    let one : k + 1 ≡ suc k = omega arith in
-    let two : k + 2 ≡ suc (suc k) = omega arith in
-    ap₂ (λ (i j : ℕ). set (set (set l k (v / 65536 % 256)) i (v / 256 % 256)) j (v % 256)) one two ∙ ap (sets l k) (sym (high-three v))
+-- ---- the lowest bytes of a number, by std's eight
 
 -- the bytes of a number in two groups
 high-grouped : (m n v : ℕ) → bytes_high (m + n) v ≡ bytes_high m (v / 256 ^ n) ++ bytes_high n v
@@ -49,23 +43,27 @@ grouped-stores l k m n v =
     ap (λ (j : ℕ). sets (sets l k (bytes_high m (v / 256 ^ n))) (k + j) (bytes_high n v)) (sym (length_high m (v / 256 ^ n)))
     ∙ sets_more l k (bytes_high m (v / 256 ^ n)) (bytes_high n v) ∙ ap (sets l k) (sym (high-grouped m n v))
 
-high_one : (v : ℕ) → bytes_high 1 v ≡ v % 256 ∷ []
+be-eight : (v : ℕ) → to_be_bytes w64 v ≡ bytes_high 8 v
 unfolding bytes_high
-high_one v = refl
+be-eight v = simp div-div-eq-div-mul
 
--- seven: six, and one of its own
-pub seven-stores : (l : List ℕ) (k v : ℕ) → set (sets l k (bytes_high 6 (v / 256))) (k + 6) (v % 256) ≡ sets l k (bytes_high 7 v)
-seven-stores l k v = ap (sets (sets l k (bytes_high 6 (v / 256))) (k + 6)) (sym (high_one v)) ∙ grouped-stores l k 6 1 v
+pub be-high : (size v : ℕ) → size ≤ 8 → take (8 - (8 - size)) (drop (8 - size) (to_be_bytes w64 v)) ≡ bytes_high size v
+be-high size v h =
+    let whole : 8 ≡ 8 - size + size = omega arith in
+    let upper = bytes_high (8 - size) (v / 256 ^ size) in
+    let long : 8 - size ≡ length upper = sym (length_high (8 - size) (v / 256 ^ size)) in
+    let rest : drop (8 - size) (to_be_bytes w64 v) ≡ bytes_high size v =
+    ap (drop (8 - size)) (be-eight v ∙ ap (λ (n : ℕ). bytes_high n v) whole ∙ high-grouped (8 - size) size v)
+    ∙ ap (λ (n : ℕ). drop n (upper ++ bytes_high size v)) long
+    ∙ drop-append_seam upper (bytes_high size v) in
+    ap (take (8 - (8 - size))) rest ∙ take_all (8 - (8 - size)) (bytes_high size v) (omega (arith, length_high size v))
 
-high-two : (v : ℕ) → bytes_high 2 v ≡ v / 256 % 256 ∷ v % 256 ∷ []
-unfolding bytes_high
-high-two v = refl
-
--- five: two of their own, and three
-pub five-stores : (l : List ℕ) (v : ℕ) → sets (set (set l 0 (v / 4294967296 % 256)) 1 (v / 16777216 % 256)) 2 (bytes_high 3 v) ≡ sets l 0 (bytes_high 5 v)
-five-stores l v =
-    let two : bytes_high 2 (v / 16777216) ≡ v / 4294967296 % 256 ∷ v / 16777216 % 256 ∷ [] = high-two (v / 16777216) ∙ simp div-div-eq-div-mul in
-    ap (λ (t : List ℕ). sets (sets l 0 t) 2 (bytes_high 3 v)) (sym two) ∙ grouped-stores l 0 2 3 v
+-- .. stored into the middle of a list
+pub mid-high : (out new : List ℕ) (k size v : ℕ) → k + size ≤ length out → new ≡ bytes_high size v → put_mid k (k + size - k) out new ≡ sets out k (bytes_high size v)
+mid-high out new k size v h e =
+    let long : length new ≡ size = ap length e ∙ length_high size v in
+    let rest : drop (k + size - k) (drop k out) ≡ drop (k + length new) out = drop-drop (k + size - k) k out ∙ ap (λ (n : ℕ). drop n out) (omega arith) in
+    ap (λ (t : List ℕ). take k out ++ (new ++ t)) rest ∙ sym (append_assoc (take k out) new (drop (k + length new) out)) ∙ sym (sets-eq new out k (omega arith)) ∙ ap (sets out k) e
 
 -- ---- higher bits are no part of the lowest bytes
 

@@ -1,91 +1,43 @@
 // The exercise file, written from lists of numbers, eight bytes a number (document 02, tickets 1 and 2).
 #![tactic(auto)]
 
-ghost use Rattle.std.specs.Prelude.{◌≡◌, ◌+◌, ◌*◌, ◌≤◌, pos, length};
+ghost use Rattle.std.specs.Prelude.{◌≡◌, ◌+◌, ◌*◌, ◌≤◌, ◌<◌, length};
 ghost use Rattle.std.proofs.lemmas.List.Edits.{sets};
+ghost use Rattle.ints.specs.Refusal.{lent};
 ghost use Rattle.ints.specs.Table.{tab};
+ghost use Rattle.refusals.specs.Number.{answer};
 ghost use Rattle.numbers.specs.Bytes.{number_at};
-ghost use Rattle.hour.specs.declared.Edition.TheVariants.{PathOnly, WithSeller};
+ghost use Rattle.hour.specs.Numbers.{as_row, as_transaction};
 ghost use Rattle.exercise.specs.Inside.{header_bits, item_size, item_length};
-ghost use Rattle.exercise.specs.Lists.{content, hour_given, row_given, transaction_length, transaction_given, write_refusal, write_outcome};
+ghost use Rattle.exercise.specs.Lists.{handed_over, counted, hour_given, write_refusal, write_outcome};
 ghost use Rattle.exercise.specs.Written.{packed, bytes_high, run, price_bits, row_fields, transaction_fields, file_of, Fit};
 ghost use Rattle.exercise_write.specs.Inside.{fields_given, FieldsFit, PricesFit, HeaderFits, Ready};
 
-use hour::Edition;
+use exercise::{Counts, Header, HourLists, Item};
+use hour::{Edition, RowNumbers, TransactionNumbers};
+use refusals::Refusal;
 
-// ---- bytes, the highest first
-
-// The three, six, and seven lowest bytes of a number, from place k on.
-fn put_three(out: &mut [u8], k: usize, v: u64)
-    requires { k + 3 ≤ length out.old }
-    ensures { out.new ≡ sets out.old k (bytes_high 3 v) }
+// The N lowest bytes of a number, the highest first, from place k on.
+fn put_high<const N: usize>(out: &mut [u8], k: usize, v: u64)
+    requires { (k + N ≤ length out.old) × (N ≤ 8) }
+    ensures { out.new ≡ sets out.old k (bytes_high N v) }
 {
-    out[k] = (v / 65536 % 256) as u8;
-    out[k + 1] = (v / 256 % 256) as u8;
-    out[k + 2] = (v % 256) as u8;
-}
-
-fn put_six(out: &mut [u8], k: usize, v: u64)
-    requires { k + 6 ≤ length out.old }
-    ensures { out.new ≡ sets out.old k (bytes_high 6 v) }
-{
-    put_three(out, k, v / 16777216);
-    put_three(out, k + 3, v);
-}
-
-fn put_seven(out: &mut [u8], k: usize, v: u64)
-    requires { k + 7 ≤ length out.old }
-    ensures { out.new ≡ sets out.old k (bytes_high 7 v) }
-{
-    put_six(out, k, v / 256);
-    out[k + 6] = (v % 256) as u8;
-}
-
-// As many as an item has, six or seven.
-fn put_item(out: &mut [u8], k: usize, size: usize, v: u64)
-    requires { (k + size ≤ length out.old) × (6 ≤ size) × (size ≤ 7) }
-    ensures { out.new ≡ sets out.old k (bytes_high size v) }
-{
-    if size == 7 {
-        put_seven(out, k, v);
-    } else {
-        put_six(out, k, v);
-    }
+    let end = k + N;
+    out[k..end].copy_from_slice(&v.to_be_bytes()[8 - N..]);
 }
 
 // ---- the header
 
-fn header_bits(
-    participants: usize,
-    locations: usize,
-    rows: usize,
-    transactions: usize,
-    edition: usize,
-) -> u64
-    requires { HeaderFits participants locations rows transactions edition }
-    ensures { result ≡ header_bits participants locations rows transactions edition }
+fn header_bits(header: Header) -> u64
+    requires { HeaderFits header }
+    ensures { result ≡ header_bits header.participants header.locations header.rows header.transactions header.edition }
 {
-    ((((participants as u64 - 1) * 64 + (locations as u64 - 1)) * 4096 + rows as u64) * 1024
-        + transactions as u64)
+    ((((header.participants as u64 - 1) * 64 + (header.locations as u64 - 1)) * 4096
+        + header.rows as u64)
+        * 1024
+        + header.transactions as u64)
         * 64
-        + edition as u64
-}
-
-fn put_header(
-    out: &mut [u8],
-    participants: usize,
-    locations: usize,
-    rows: usize,
-    transactions: usize,
-    edition: usize,
-)
-    requires { (5 ≤ length out.old) × HeaderFits participants locations rows transactions edition }
-    ensures { out.new ≡ sets out.old 0 (bytes_high 5 (header_bits participants locations rows transactions edition)) }
-{
-    let v = header_bits(participants, locations, rows, transactions, edition);
-    out[0] = (v / 4294967296 % 256) as u8;
-    out[1] = (v / 16777216 % 256) as u8;
-    put_three(out, 2, v);
+        + header.edition as u64
 }
 
 // ---- prices
@@ -95,230 +47,144 @@ fn put_prices(out: &mut [u8], prices: &[u8], n: usize)
     requires { (5 + 3 * n ≤ length out.old) × (8 * n ≤ length prices.now) × PricesFit prices.now n }
     ensures { out.new ≡ sets out.old 5 (run 3 price_bits (tab (number_at prices.now) n)) }
 {
-    let mut j: usize = 0;
-    while j < n {
-        put_three(out, 5 + 3 * j, numbers::word_at(prices, j));
-        j += 1;
+    for j in 0..n {
+        put_high::<3>(out, 5 + 3 * j, numbers::word_at(prices, j));
     }
 }
 
 // ---- rows and transactions
 
-// Row i of a list as 48 bits.
-fn row_bits(list: &[u8], i: usize) -> u64
-    requires { (48 * i + 48 ≤ length list.now) × Fit (row_fields (row_given list.now i)) }
-    ensures { result ≡ packed (row_fields (row_given list.now i)) }
+// A row as 48 bits.
+fn row_bits(row: RowNumbers) -> u64
+    requires { Fit (row_fields (as_row row)) }
+    ensures { result ≡ packed (row_fields (as_row row)) }
 {
-    (((((numbers::word_at(list, 6 * i) * 8 + numbers::word_at(list, 6 * i + 1)) * 16
-        + numbers::word_at(list, 6 * i + 2))
-        * 64
-        + numbers::word_at(list, 6 * i + 3))
-        * 64
-        + numbers::word_at(list, 6 * i + 4))
+    (((((row.market * 8 + row.kind) * 16 + row.interval) * 64 + row.participant) * 64
+        + row.location)
         * 33554432
-        + numbers::word_at(list, 6 * i + 5))
+        + row.kw)
         * 8
 }
 
-// Transaction i, where it is a path alone.
-fn path_bits(list: &[u8], i: usize) -> u64
-    requires { (48 * i + 48 ≤ length list.now) × Fit (transaction_fields PathOnly (transaction_given PathOnly list.now i)) }
-    ensures { result ≡ packed (transaction_fields PathOnly (transaction_given PathOnly list.now i)) }
+// A transaction of an edition, as 48 bits, or with its seller as 56.
+fn transaction_bits(edition: Edition, transaction: TransactionNumbers) -> u64
+    requires { Fit (transaction_fields edition (as_transaction transaction)) }
+    ensures { result ≡ packed (transaction_fields edition (as_transaction transaction)) }
 {
-    ((((numbers::word_at(list, 6 * i) * 16 + numbers::word_at(list, 6 * i + 1)) * 64
-        + numbers::word_at(list, 6 * i + 2))
-        * 64
-        + numbers::word_at(list, 6 * i + 3))
-        * 64
-        + numbers::word_at(list, 6 * i + 4))
-        * 33554432
-        + numbers::word_at(list, 6 * i + 5)
-}
-
-// Transaction i with its seller, as 56 bits.
-fn sale_bits(list: &[u8], i: usize) -> u64
-    requires { (56 * i + 56 ≤ length list.now) × Fit (transaction_fields WithSeller (transaction_given WithSeller list.now i)) }
-    ensures { result ≡ packed (transaction_fields WithSeller (transaction_given WithSeller list.now i)) }
-{
-    ((((((numbers::word_at(list, 7 * i) * 16 + numbers::word_at(list, 7 * i + 1)) * 64
-        + numbers::word_at(list, 7 * i + 2))
-        * 64
-        + numbers::word_at(list, 7 * i + 3))
-        * 64
-        + numbers::word_at(list, 7 * i + 4))
-        * 64
-        + numbers::word_at(list, 7 * i + 5))
-        * 33554432
-        + numbers::word_at(list, 7 * i + 6))
-        * 4
-}
-
-// Transaction i of either edition.
-fn transaction_bits(edition: Edition, list: &[u8], i: usize) -> u64
-    requires { (8 * (transaction_length edition * i + transaction_length edition) ≤ length list.now) × Fit (transaction_fields edition (transaction_given edition list.now i)) }
-    ensures { result ≡ packed (transaction_fields edition (transaction_given edition list.now i)) }
-{
+    let TransactionNumbers {
+        market,
+        interval,
+        participant,
+        seller,
+        source,
+        sink,
+        kw,
+    } = transaction;
     match edition {
-        Edition::PathOnly => path_bits(list, i),
-        Edition::WithSeller => sale_bits(list, i),
+        Edition::PathOnly => {
+            ((((market * 16 + interval) * 64 + participant) * 64 + source) * 64 + sink) * 33554432
+                + kw
+        }
+        Edition::WithSeller => {
+            ((((((market * 16 + interval) * 64 + participant) * 64 + seller) * 64 + source) * 64
+                + sink)
+                * 33554432
+                + kw)
+                * 4
+        }
     }
 }
 
-// Item i of a list, a transaction or a row.
-fn packed_at(transactions: bool, edition: Edition, list: &[u8], i: usize) -> u64
-    requires { (8 * (item_length transactions edition * i + item_length transactions edition) ≤ length list.now) × Fit (fields_given transactions edition list.now i) }
-    ensures { result ≡ packed (fields_given transactions edition list.now i) }
+// Item i of a list.
+fn packed_at(item: Item, list: &[u8], i: usize) -> u64
+    requires { (8 * (item_length item * i + item_length item) ≤ length list.now) × Fit (fields_given item list.now i) }
+    ensures { result ≡ packed (fields_given item list.now i) }
 {
-    if transactions {
-        return transaction_bits(edition, list, i);
+    match item {
+        Item::Row => row_bits(exercise_given::row_given(list, i)),
+        Item::Transaction(edition) => {
+            transaction_bits(edition, exercise_given::transaction_given(edition, list, i))
+        }
     }
-    row_bits(list, i)
 }
 
-// The first n of a list, from place k on.
-fn put_packed(transactions: bool, edition: Edition, out: &mut [u8], k: usize, list: &[u8], n: usize)
-    requires { (k + item_size transactions edition * n ≤ length out.old) × (8 * (item_length transactions edition * n) ≤ length list.now) × FieldsFit transactions edition list.now n }
-    ensures { out.new ≡ sets out.old k (run (item_size transactions edition) packed (tab (fields_given transactions edition list.now) n)) }
+// The bytes of an item, as many as it has.
+fn put_item(item: Item, out: &mut [u8], k: usize, v: u64)
+    requires { k + item_size item ≤ length out.old }
+    ensures { out.new ≡ sets out.old k (bytes_high (item_size item) v) }
 {
-    let size = exercise_editions::item_size(transactions, edition);
-    let mut i: usize = 0;
-    while i < n {
-        put_item(
-            out,
-            k + size * i,
-            size,
-            packed_at(transactions, edition, list, i),
-        );
-        i += 1;
+    match item {
+        Item::Transaction(Edition::WithSeller) => put_high::<7>(out, k, v),
+        Item::Row | Item::Transaction(Edition::PathOnly) => put_high::<6>(out, k, v),
+    }
+}
+
+// The first n items of a list, from place k on.
+fn put_packed(item: Item, out: &mut [u8], k: usize, list: &[u8], n: usize)
+    requires { (k + item_size item * n ≤ length out.old) × (8 * (item_length item * n) ≤ length list.now) × FieldsFit item list.now n }
+    ensures { out.new ≡ sets out.old k (run (item_size item) packed (tab (fields_given item list.now) n)) }
+{
+    let size = exercise_editions::item_size(item);
+    for i in 0..n {
+        put_item(item, out, k + size * i, packed_at(item, list, i));
     }
 }
 
 // ---- the file
 
 // The file of content that was tested.
-fn put_file(
-    participants: usize,
-    locations: usize,
-    rows: usize,
-    transactions: usize,
-    edition: usize,
-    prices: &[u8],
-    row_list: &[u8],
-    transaction_list: &[u8],
-    out: &mut [u8],
-)
-    requires { Ready participants locations rows transactions edition prices.now row_list.now transaction_list.now (length out.old) }
-    ensures { out.new ≡ sets out.old 0 (file_of (hour_given (content (pos participants) (pos locations) (pos rows) (pos transactions) (pos edition) prices.now row_list.now transaction_list.now))) }
+fn put_file(header: Header, lists: HourLists, out: &mut [u8])
+    requires { Ready header lists.prices.now lists.rows.now lists.transactions.now (length out.old) }
+    ensures { out.new ≡ sets out.old 0 (file_of (hour_given (counted header lists.entry))) }
 {
-    put_header(out, participants, locations, rows, transactions, edition);
-    put_prices(out, prices, 26 * locations);
-    let rows_at = 5 + 3 * (26 * locations);
-    // rows are alike in both editions
-    put_packed(false, Edition::PathOnly, out, rows_at, row_list, rows);
+    put_high::<5>(out, 0, header_bits(header));
+    put_prices(out, lists.prices, 26 * header.locations);
+    let rows_at = 5 + 3 * (26 * header.locations);
+    put_packed(Item::Row, out, rows_at, lists.rows, header.rows);
+    let edition = exercise_editions::edition_of(header.edition as u64);
     put_packed(
-        true,
-        exercise_editions::edition_of(edition as u64),
+        Item::Transaction(edition),
         out,
-        rows_at + 6 * rows,
-        transaction_list,
-        transactions,
+        rows_at + 6 * header.rows,
+        lists.transactions,
+        header.transactions,
     );
 }
 
 // The file of content whose counts and edition are in range, or its refusal.
-fn write_counted(
-    participants: usize,
-    locations: usize,
-    rows: usize,
-    transactions: usize,
-    edition: usize,
-    prices: &[u8],
-    row_list: &[u8],
-    transaction_list: &[u8],
-    file: &mut [u8],
-) -> u32
-    requires { HeaderFits participants locations rows transactions edition }
-    ensures value { result ≡ write_refusal (content (pos participants) (pos locations) (pos rows) (pos transactions) (pos edition) prices.now row_list.now transaction_list.now) (length file.old) }
-    ensures file_after { file.new ≡ write_outcome (content (pos participants) (pos locations) (pos rows) (pos transactions) (pos edition) prices.now row_list.now transaction_list.now) file.old }
+fn write_counted(header: Header, lists: HourLists, file: &mut [u8]) -> Result<(), Refusal>
+    requires { HeaderFits header }
+    ensures value { answer result ≡ write_refusal (counted header lists.entry) (length file.old) }
+    ensures file_after { file.new ≡ write_outcome (counted header lists.entry) file.old }
 {
-    let layout = exercise_editions::edition_of(edition as u64);
-    let refusal = exercise_lists::lists_refusal(
-        locations,
-        rows,
-        transactions,
-        layout,
-        prices.len(),
-        row_list.len(),
-        transaction_list.len(),
-    );
-    if refusal != 0 {
-        return refusal;
+    exercise_lists::lists_refusal(
+        header,
+        lists.prices.len(),
+        lists.rows.len(),
+        lists.transactions.len(),
+    )?;
+    exercise_lists::content_refusal(header, lists)?;
+    let edition = exercise_editions::edition_of(header.edition as u64);
+    let size = exercise_editions::transaction_size(edition);
+    if file.len() < 5 + 3 * (26 * header.locations) + 6 * header.rows + size * header.transactions {
+        return Err(Refusal::Length);
     }
-    let refusal = exercise_lists::content_refusal(
-        participants,
-        locations,
-        rows,
-        transactions,
-        edition,
-        prices,
-        row_list,
-        transaction_list,
-    );
-    if refusal != 0 {
-        return refusal;
-    }
-    let size = exercise_editions::transaction_size(layout);
-    if file.len() < 5 + 3 * (26 * locations) + 6 * rows + size * transactions {
-        return 1;
-    }
-    put_file(
-        participants,
-        locations,
-        rows,
-        transactions,
-        edition,
-        prices,
-        row_list,
-        transaction_list,
-        file,
-    );
-    0
+    put_file(header, lists, file);
+    Ok(())
 }
 
 // The file of what is handed over, or its refusal.
-pub fn write_file(
-    participants: i64,
-    locations: i64,
-    rows: i64,
-    transactions: i64,
-    edition: i64,
-    prices: &[u8],
-    row_list: &[u8],
-    transaction_list: &[u8],
-    file: &mut [u8],
-) -> u32
-    ensures value { result ≡ write_refusal (content participants locations rows transactions edition prices.now row_list.now transaction_list.now) (length file.old) }
-    ensures file_after { file.new ≡ write_outcome (content participants locations rows transactions edition prices.now row_list.now transaction_list.now) file.old }
+pub fn write_file(counts: Counts, lists: HourLists, file: &mut [u8]) -> Result<(), Refusal>
+    ensures value { answer result ≡ write_refusal (handed_over counts lists.entry) (length file.old) }
+    ensures file_after { file.new ≡ write_outcome (handed_over counts lists.entry) file.old }
 {
-    let refusal = exercise_lists::counts_refusal(
-        participants,
-        locations,
-        rows,
-        transactions,
-        edition,
-    );
-    if refusal != 0 {
-        return refusal;
-    }
-    write_counted(
-        participants as usize,
-        locations as usize,
-        rows as usize,
-        transactions as usize,
-        edition as usize,
-        prices,
-        row_list,
-        transaction_list,
-        file,
-    )
+    exercise_lists::counts_refusal(counts)?;
+    let header = Header {
+        participants: counts.participants as usize,
+        locations: counts.locations as usize,
+        rows: counts.rows as usize,
+        transactions: counts.transactions as usize,
+        edition: counts.edition as usize,
+    };
+    write_counted(header, lists, file)
 }

@@ -18,13 +18,12 @@ use Rattle.ints.proofs.Tables.{tab-ext, tab-front, tab-self}
 use Rattle.ints.proofs.Tests.{count-from-0}
 use Rattle.ints.proofs.Turns.{then-earlier, order-ext}
 use Rattle.split.specs.Split.{total}
-use Rattle.hour.specs.Cause.{no_cause, cause, as_number, no_row, no_transaction, row_fields, transaction_fields, tested, unshared_cause, credits_cause, ◌or◌, first_cause, below, kinds_of, intervals_of, row_cause, transaction_cause, price_cause, prices_cause, rows_cause, transactions_cause, content_cause, share_cause, surplus_cause, of_price, of_row, of_transaction, of_surplus, of_share}
+use Rattle.hour.specs.Cause.{Cause, no_cause, cause, as_number, no_row, no_transaction, row_fields, transaction_fields, tested, unshared_cause, credits_cause, ◌or◌, first_cause, below, kinds_of, intervals_of, row_cause, transaction_cause, price_cause, prices_cause, rows_cause, transactions_cause, content_cause, share_cause, surplus_cause, of_price, of_row, of_transaction, of_surplus, of_share}
 use Rattle.hour.specs.Hour.{day_ahead, Hour, all_prices}
 use Rattle.hour.specs.InsideCause.{first_from}
 use Rattle.hour.specs.InsideTotals.{Natural}
 use Rattle.hour.specs.Order.{Spare, is_price, has_kind, has_interval, row_refusal, packed_row_refusal, transaction_refusal, packed_transaction_refusal, prices_refusal, rows_refusal, transactions_refusal, content_refusal, not_above, surplus_refusal, credits_refusal}
 use Rattle.hour.specs.Surplus.{surplus, shares}
-use Rattle.hour.specs.declared.Cause.{Cause}
 use Rattle.hour.specs.declared.Row.{Row}
 use Rattle.hour.specs.declared.Transaction.{Transaction}
 use Rattle.hour.proofs.Billed.{shares-natural}
@@ -300,13 +299,13 @@ surplus-outside surplus shares =
     unshared true = none-outside
     unshared false = tested-outside 7 of_surplus 0 0 surplus (pos 0) (pos 0)
 
--- ---- made by code
+-- ---- one after the other, with the causes of each
 
 -- a cause that was made of two, which are those of a definition
 pub or-made : (a b a' b' r : Cause) → r ≡ (a or b) → a ≡ a' → b ≡ b' → r ≡ (a' or b')
 or-made a b a' b' r e f g = e ∙ ap₂ (λ (x y : Cause). x or y) f g
 
--- the number before an end, as code makes it
+-- the number before an end, as a natural number
 pub before-end : (e : ℕ) → 1 ≤ e → pos (e - 1) ≡ pos e -ℤ pos 1
 before-end e h = simp (le-ltb e 1 h)
 

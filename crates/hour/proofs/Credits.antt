@@ -1,6 +1,5 @@
 -- The surplus and its credits: the order from the split's, demand 3, and sums and sizes. Assumes nothing.
 use mathlib.Core.Path.{◌≡◌, refl, sym, ap, ap₂, ◌∙◌}
-use mathlib.Core.Logic.{◌≢◌}
 use mathlib.Core.Bool.{Bool, true, false, ◌||◌, ◌&&◌}
 use mathlib.Core.List.{List, [], ◌∷◌}
 use Prim.Native.Nat.{ℕ, ◌≤◌, ◌<◌}
@@ -11,7 +10,7 @@ use lib.ListN.{length}
 use lib.Signed.{le_z, nat_abs-le}
 use mir.Syntax.{w64}
 use mir.Val.{SFits}
-use borrow.Author.Tests.{le-leb, eq-eqb, ne_eqb}
+use borrow.Author.Tests.{le-leb, eq-eqb}
 use Rattle.ints.specs.Number.{below0, between}
 use Rattle.ints.specs.InsideRange.{InRange}
 use Rattle.ints.specs.Refusal.{pick, unless}
@@ -56,7 +55,7 @@ in-range k (x ∷ xs) (e, more) = ap₂ (λ (low rest : Bool). (low && le_z x (p
 
 module _ (surplus : ℤ) (shares : List ℤ) (n : ℕ) (some : 1 ≤ length shares) (few : length shares ≤ 64) (natural : Natural shares) (same : n ≡ length shares) where
   -- the split's 2 is a 10 here, and else the numbers are the same
-  renumbered : surplus_refusal surplus shares ≡ pick (eqb (split_refusal surplus shares n) 2) 10 (split_refusal surplus shares n)
+  pub renumbered : surplus_refusal surplus shares ≡ pick (eqb (split_refusal surplus shares n) 2) 10 (split_refusal surplus shares n)
   unfolding surplus_refusal split_refusal
   renumbered = simp (le-leb 1 (length shares) some, le-leb (length shares) 64 few, eq-eqb n (length shares) same, in-range 4000000000 shares natural) (by (between (neg_ℤ (pos 1000000000)) (pos 1000000000) surplus) (all (not_above 4000000000) shares) (ltb 0 (total shares) || eqb (nat_abs surplus) 0))
     where
@@ -65,12 +64,6 @@ module _ (surplus : ℤ) (shares : List ℤ) (n : ℕ) (some : 1 ≤ length shar
       by true false c = refl
       by true true false = refl
       by true true true = refl
-
-  pub ten-for-two : (r : ℕ) → r ≡ split_refusal surplus shares n → r ≡ 2 → 10 ≡ surplus_refusal surplus shares
-  ten-for-two r e two = sym (renumbered ∙ ap (λ (b : Bool). pick b 10 (split_refusal surplus shares n)) (eq-eqb (split_refusal surplus shares n) 2 (sym e ∙ two)))
-
-  pub same_number : (r : ℕ) → r ≡ split_refusal surplus shares n → r ≢ 2 → r ≡ surplus_refusal surplus shares
-  same_number r e other = e ∙ sym (renumbered ∙ ap (λ (b : Bool). pick b 10 (split_refusal surplus shares n)) (ne_eqb (split_refusal surplus shares n) 2 (λ two. other (e ∙ two))))
 
   -- accepted here, accepted there
   pub split-accepts : surplus_refusal surplus shares ≡ 0 → split_refusal surplus shares n ≡ 0

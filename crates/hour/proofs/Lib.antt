@@ -9,6 +9,8 @@ pub mod Tested
 pub mod Credits
 pub mod Billed
 pub mod Causes
+pub mod Told
 pub mod Theorems
 pub mod Each
 pub mod Weighed
+pub mod Numbers

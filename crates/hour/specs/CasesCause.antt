@@ -2,9 +2,8 @@
 use Rattle.std.specs.Prelude.{◌≡◌, refl, [], ◌∷◌, ℕ, ◌*◌, pos, negsuc, neg_ℤ}
 use Rattle.ints.specs.Sum.{sum_nat}
 use Rattle.split.specs.Split.{total}
-use Rattle.hour.specs.Cause.{of_price, of_row, of_transaction, of_surplus, of_share, cause, no_cause, tested, first_cause, price_cause, row_cause, rows_cause, transaction_cause, unshared_cause, surplus_cause}
+use Rattle.hour.specs.Cause.{Cause, of_price, of_row, of_transaction, of_surplus, of_share, cause, no_cause, tested, first_cause, price_cause, row_cause, rows_cause, transaction_cause, unshared_cause, surplus_cause}
 use Rattle.hour.specs.Hour.{day_ahead, real_time, load, decrement_bid, increment_offer}
-use Rattle.hour.specs.declared.Cause.{Cause}
 use Rattle.hour.specs.declared.Row.{Row}
 use Rattle.hour.specs.declared.Edition.TheVariants as Edition
 

@@ -9,11 +9,20 @@ use Rattle.split.specs.Split.{total}
 use Rattle.hour.specs.Hour.{day_ahead, Hour, all_prices}
 use Rattle.hour.specs.Order.{Spare}
 use Rattle.hour.specs.Surplus.{surplus, shares}
-use Rattle.hour.specs.declared.Cause.{Cause}
 use Rattle.hour.specs.declared.Row.{Row}
 use Rattle.hour.specs.declared.Transaction.{Transaction}
 
 -- ---- a cause
+
+-- the refusal; field `field` of number `number` of a part; what stands there, and the least and the most that may
+pub record Cause : Type 0 where
+  pub refusal : ℕ
+  pub part : ℕ
+  pub number : ℕ
+  pub field : ℕ
+  pub found : ℤ
+  pub least : ℤ
+  pub most : ℤ
 
 -- the parts of an hour, of its file and of the lists that it is handed over in
 abbrev pub of_file : ℕ
@@ -40,7 +49,6 @@ of_share = 7
 abbrev pub of_list : ℕ
 of_list = 8
 
--- the refusal; field `field` of number `number` of a part; what stands there, and the least and the most that may
 abbrev pub cause : ℕ → ℕ → ℕ → ℕ → ℤ → ℤ → ℤ → Cause
 cause refusal part number field found least most =
     record { refusal = refusal; part = part; number = number; field = field; found = found; least = least; most = most }

@@ -1,7 +1,6 @@
 -- Causes in turn, as loops go through them. Assumes nothing.
 use Rattle.std.specs.Prelude.{ℕ, zero, suc}
-use Rattle.hour.specs.Cause.{no_cause, ◌or◌}
-use Rattle.hour.specs.declared.Cause.{Cause}
+use Rattle.hour.specs.Cause.{Cause, no_cause, ◌or◌}
 
 -- the first of n causes from f i on
 unfoldable pub first_from : (ℕ → Cause) → ℕ → ℕ → Cause

@@ -2,9 +2,11 @@ pub mod Hour
 pub mod Charges
 pub mod Surplus
 pub mod Order
+pub mod Numbers
 pub mod Cause
 pub mod InsideTested
 pub mod InsideCause
+pub mod InsideTold
 pub mod InsideParts
 pub mod InsideTotals
 pub mod CasesCharges

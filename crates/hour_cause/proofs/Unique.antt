@@ -2,10 +2,10 @@
 -- `F.Post` is the `ensures` of F, over lifetimes, arguments, result and what the lent lists hold at exit.
 use mathlib.Core.Path.{◌≡◌}
 use contract.Lifetimes.{Lfts}
+use Rattle.std.specs.Prelude.{Result, ⊤}
 use Rattle.ints.proofs.Unique.{unique}
 use Rattle.hour.specs.declared.Cause.{Cause}
-use Rattle.hour_cause.proofs.first_of.Reads as first_of
-use Rattle.hour_cause.proofs.none.Reads as none
+use Rattle.hour.proofs.Told.{told-unique}
 use Rattle.hour_cause.proofs.price_cause.Reads as price-cause
 use Rattle.hour_cause.proofs.put_cause.Reads as put-cause
 use Rattle.hour_cause.proofs.row_cause.Reads as row-cause
@@ -13,26 +13,20 @@ use Rattle.hour_cause.proofs.surplus_cause.Reads as surplus-cause
 use Rattle.hour_cause.proofs.tested.Reads as tested
 use Rattle.hour_cause.proofs.transaction_cause.Reads as transaction-cause
 
-pub none-unique : (a : _) (r s : Cause) (e f : _) → none.Post tt a r e → none.Post tt a s f → r ≡ s
-none-unique a r s e f p q = unique p q
+pub tested-unique : (a : _) (r s : Result ⊤ Cause) (e f : _) → tested.Post tt a r e → tested.Post tt a s f → r ≡ s
+tested-unique a r s e f p q = told-unique r s (unique p q)
 
-pub tested-unique : (a : _) (r s : Cause) (e f : _) → tested.Post tt a r e → tested.Post tt a s f → r ≡ s
-tested-unique a r s e f p q = unique p q
+pub price-cause-unique : (a : _) (r s : Result ⊤ Cause) (e f : _) → price-cause.Post tt a r e → price-cause.Post tt a s f → r ≡ s
+price-cause-unique a r s e f p q = told-unique r s (unique p q)
 
-pub first-of-unique : (a : _) (r s : Cause) (e f : _) → first_of.Post tt a r e → first_of.Post tt a s f → r ≡ s
-first-of-unique a r s e f p q = unique p q
+pub row-cause-unique : (a : _) (r s : Result ⊤ Cause) (e f : _) → row-cause.Post tt a r e → row-cause.Post tt a s f → r ≡ s
+row-cause-unique a r s e f p q = told-unique r s (unique p q)
 
-pub price-cause-unique : (a : _) (r s : Cause) (e f : _) → price-cause.Post tt a r e → price-cause.Post tt a s f → r ≡ s
-price-cause-unique a r s e f p q = unique p q
+pub transaction-cause-unique : (a : _) (r s : Result ⊤ Cause) (e f : _) → transaction-cause.Post tt a r e → transaction-cause.Post tt a s f → r ≡ s
+transaction-cause-unique a r s e f p q = told-unique r s (unique p q)
 
-pub row-cause-unique : (a : _) (r s : Cause) (e f : _) → row-cause.Post tt a r e → row-cause.Post tt a s f → r ≡ s
-row-cause-unique a r s e f p q = unique p q
-
-pub transaction-cause-unique : (a : _) (r s : Cause) (e f : _) → transaction-cause.Post tt a r e → transaction-cause.Post tt a s f → r ≡ s
-transaction-cause-unique a r s e f p q = unique p q
-
-pub surplus-cause-unique : (κs : Lfts 1) (a : _) (r s : Cause) (e f : _) → surplus-cause.Post κs a r e → surplus-cause.Post κs a s f → r ≡ s
-surplus-cause-unique κs a r s e f p q = unique p q
+pub surplus-cause-unique : (κs : Lfts 1) (a : _) (r s : Result ⊤ Cause) (e f : _) → surplus-cause.Post κs a r e → surplus-cause.Post κs a s f → r ≡ s
+surplus-cause-unique κs a r s e f p q = told-unique r s (unique p q)
 
 pub put-cause-unique : (κs : Lfts 1) (a : _) (r s : _) (e f : _) → put-cause.Post κs a r e → put-cause.Post κs a s f → e.1.0.now ≡ f.1.0.now
 put-cause-unique κs a r s e f p q = unique p q

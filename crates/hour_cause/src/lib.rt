@@ -2,73 +2,49 @@
 #![tactic(auto)]
 
 ghost use Rattle.std.specs.Prelude.{◌≡◌, ◌≤◌, length};
-ghost use Rattle.hour.specs.Cause.{no_cause, tested as Cause·tested, below as Cause·below, ◌or◌, first_cause, kinds_of, intervals_of, price_cause, row_cause, transaction_cause, share_cause, unshared_cause, surplus_cause, cause_numbers};
+ghost use Rattle.refusals.specs.Number.{number};
+ghost use Rattle.hour.specs.Cause.{tested as Cause·tested, below as Cause·below, first_cause, kinds_of, intervals_of, price_cause, row_cause, transaction_cause, share_cause, unshared_cause, surplus_cause, cause_numbers};
+ghost use Rattle.hour.specs.Numbers.{as_row, as_transaction};
+ghost use Rattle.hour.specs.InsideTold.{part_of, number_of, field_of, told};
 ghost use Rattle.numbers.specs.Bytes.{encoded};
 ghost use Rattle.split.specs.Inside.{Shares};
 
-use hour::{Cause, DAY_AHEAD};
-
-// Nothing is refused.
-pub fn none() -> Cause
-    ensures { result ≡ no_cause }
-{
-    Cause {
-        refusal: 0,
-        part: 0,
-        number: 0,
-        field: 0,
-        found: 0,
-        least: 0,
-        most: 0,
-    }
-}
+use hour::{
+    Cause, DAY_AHEAD, Place, RowField, RowNumbers, Sizes, TransactionField, TransactionNumbers,
+};
+use refusals::Refusal;
 
 // A number that has to be least to most.
+#[tactic(auto, unfolding(hour::specs::Cause::tested))]
 pub fn tested(
-    refusal: u32,
-    part: u32,
-    number: u32,
-    field: u32,
+    refusal: Refusal,
+    place: Place,
     found: i64,
     least: i64,
     most: i64,
-) -> Cause
-    ensures { result ≡ Cause·tested refusal part number field found least most }
+) -> Result<(), Cause>
+    ensures { told result ≡ Cause·tested (number refusal) (part_of place) (number_of place) (field_of place) found least most }
 {
     if ints::is_between(found, least, most) {
-        return none();
+        return Ok(());
     }
-    Cause {
+    Err(Cause {
         refusal,
-        part,
-        number,
-        field,
+        place,
         found,
         least,
         most,
-    }
-}
-
-// The earlier cause, and where it is none the later one.
-pub fn first_of(earlier: Cause, later: Cause) -> Cause
-    ensures { result ≡ (earlier or later) }
-{
-    if earlier.refusal == 0 {
-        return later;
-    }
-    earlier
+    })
 }
 
 // A number that has to be below an end, by its 64 bits.
-fn below(refusal: u32, part: u32, number: u32, field: u32, found: u64, end: u64) -> Cause
+fn below(refusal: Refusal, place: Place, found: u64, end: u64) -> Result<(), Cause>
     requires { (1 ≤ end) × (end ≤ 9223372036854775808) }
-    ensures { result ≡ Cause·below refusal part number field found end }
+    ensures { told result ≡ Cause·below (number refusal) (part_of place) (number_of place) (field_of place) found end }
 {
     tested(
         refusal,
-        part,
-        number,
-        field,
+        place,
         numbers::from_word(found),
         0,
         (end - 1) as i64,
@@ -79,156 +55,235 @@ fn below(refusal: u32, part: u32, number: u32, field: u32, found: u64, end: u64)
 fn kinds_of(market: u64) -> u64
     ensures { (result ≡ kinds_of market) × (1 ≤ result) × (result ≤ 6) }
 {
-    if market == DAY_AHEAD as u64 { 6 } else { 4 }
+    if market == u64::from(DAY_AHEAD) { 6 } else { 4 }
 }
 
 fn intervals_of(market: u64) -> u64
     ensures { (result ≡ intervals_of market) × (1 ≤ result) × (result ≤ 12) }
 {
-    if market == DAY_AHEAD as u64 { 1 } else { 12 }
+    if market == u64::from(DAY_AHEAD) {
+        1
+    } else {
+        12
+    }
 }
 
 // Price j.
-pub fn price_cause(j: u32, price: i64) -> Cause
-    ensures { result ≡ price_cause j price }
+pub fn price_cause(j: u32, price: i64) -> Result<(), Cause>
+    ensures { told result ≡ price_cause j price }
 {
-    tested(2, 3, j, 0, price, -5_000_000, 5_000_000)
-}
-
-// Row i of these numbers, with its spare bits.
-pub fn row_cause(
-    participants: u64,
-    locations: u64,
-    i: u32,
-    market: u64,
-    kind: u64,
-    interval: u64,
-    participant: u64,
-    location: u64,
-    kw: u64,
-    spare: u64,
-) -> Cause
-    requires { (1 ≤ participants) × (participants ≤ 64) × (1 ≤ locations) × (locations ≤ 64) }
-    ensures { result ≡ row_cause participants locations i (record { market = market; kind = kind; interval = interval; participant = participant; location = location; kw = record { 0 = kw } }) spare }
-{
-    first_of(
-        below(4, 4, i, 0, market, 2),
-        first_of(
-            below(4, 4, i, 1, kind, kinds_of(market)),
-            first_of(
-                below(4, 4, i, 2, interval, intervals_of(market)),
-                first_of(
-                    below(3, 4, i, 3, participant, participants),
-                    first_of(
-                        below(3, 4, i, 4, location, locations),
-                        first_of(
-                            below(2, 4, i, 5, kw, 20_000_001),
-                            below(9, 4, i, 6, spare, 1),
-                        ),
-                    ),
-                ),
-            ),
-        ),
+    tested(
+        Refusal::Range,
+        Place::Price(j),
+        price,
+        -5_000_000,
+        5_000_000,
     )
 }
 
-// Transaction i of these numbers, with its spare bits.
-pub fn transaction_cause(
-    participants: u64,
-    locations: u64,
-    i: u32,
-    market: u64,
-    interval: u64,
-    participant: u64,
-    seller: u64,
-    source: u64,
-    sink: u64,
-    kw: u64,
-    spare: u64,
-) -> Cause
-    requires { (1 ≤ participants) × (participants ≤ 64) × (1 ≤ locations) × (locations ≤ 64) }
-    ensures { result ≡ transaction_cause participants locations i (record { market = market; interval = interval; participant = participant; seller = seller; source = source; sink = sink; kw = record { 0 = kw } }) spare }
+// Row i of these numbers, with its spare bits.
+#[tactic(auto, using(hour::proofs::Told::tests), unfolding(hour::specs::Cause::row_cause))]
+pub fn row_cause(sizes: Sizes, i: u32, row: RowNumbers, spare: u64) -> Result<(), Cause>
+    ensures { told result ≡ row_cause sizes.participants sizes.locations i (as_row row) spare }
 {
-    first_of(
-        below(4, 5, i, 0, market, 2),
-        first_of(
-            below(4, 5, i, 1, interval, intervals_of(market)),
-            first_of(
-                below(3, 5, i, 2, participant, participants),
-                first_of(
-                    below(3, 5, i, 6, seller, participants),
-                    first_of(
-                        below(3, 5, i, 3, source, locations),
-                        first_of(
-                            below(3, 5, i, 4, sink, locations),
-                            first_of(
-                                below(2, 5, i, 5, kw, 20_000_001),
-                                below(9, 5, i, 7, spare, 1),
-                            ),
-                        ),
-                    ),
-                ),
-            ),
-        ),
+    below(
+        Refusal::Kind,
+        Place::Row(i, RowField::Market),
+        row.market,
+        2,
+    )?;
+    below(
+        Refusal::Kind,
+        Place::Row(i, RowField::Kind),
+        row.kind,
+        kinds_of(row.market),
+    )?;
+    below(
+        Refusal::Kind,
+        Place::Row(i, RowField::Interval),
+        row.interval,
+        intervals_of(row.market),
+    )?;
+    below(
+        Refusal::Identity,
+        Place::Row(i, RowField::Participant),
+        row.participant,
+        sizes.participants,
+    )?;
+    below(
+        Refusal::Identity,
+        Place::Row(i, RowField::Location),
+        row.location,
+        sizes.locations,
+    )?;
+    below(
+        Refusal::Range,
+        Place::Row(i, RowField::Kw),
+        row.kw,
+        20_000_001,
+    )?;
+    below(Refusal::File, Place::Row(i, RowField::Spare), spare, 1)
+}
+
+// Transaction i of these numbers, with its spare bits.
+#[tactic(auto, using(hour::proofs::Told::tests), unfolding(hour::specs::Cause::transaction_cause))]
+pub fn transaction_cause(
+    sizes: Sizes,
+    i: u32,
+    transaction: TransactionNumbers,
+    spare: u64,
+) -> Result<(), Cause>
+    ensures { told result ≡ transaction_cause sizes.participants sizes.locations i (as_transaction transaction) spare }
+{
+    below(
+        Refusal::Kind,
+        Place::Transaction(i, TransactionField::Market),
+        transaction.market,
+        2,
+    )?;
+    below(
+        Refusal::Kind,
+        Place::Transaction(i, TransactionField::Interval),
+        transaction.interval,
+        intervals_of(transaction.market),
+    )?;
+    below(
+        Refusal::Identity,
+        Place::Transaction(i, TransactionField::Participant),
+        transaction.participant,
+        sizes.participants,
+    )?;
+    below(
+        Refusal::Identity,
+        Place::Transaction(i, TransactionField::Seller),
+        transaction.seller,
+        sizes.participants,
+    )?;
+    below(
+        Refusal::Identity,
+        Place::Transaction(i, TransactionField::Source),
+        transaction.source,
+        sizes.locations,
+    )?;
+    below(
+        Refusal::Identity,
+        Place::Transaction(i, TransactionField::Sink),
+        transaction.sink,
+        sizes.locations,
+    )?;
+    below(
+        Refusal::Range,
+        Place::Transaction(i, TransactionField::Kw),
+        transaction.kw,
+        20_000_001,
+    )?;
+    below(
+        Refusal::File,
+        Place::Transaction(i, TransactionField::Spare),
+        spare,
+        1,
     )
 }
 
 // The first share that is above what a share may be.
-fn shares_cause(shares: &[i64]) -> Cause
+fn shares_cause(shares: &[i64]) -> Result<(), Cause>
     requires { length shares.now ≤ 64 }
-    ensures { result ≡ first_cause share_cause 0 shares.now }
+    ensures { told result ≡ first_cause share_cause 0 shares.now }
 {
-    let mut p: usize = 0;
-    while p < shares.len() {
-        let cause = tested(10, 7, p as u32, 0, shares[p], 0, 4_000_000_000);
-        if cause.refusal != 0 {
-            return cause;
-        }
-        p += 1;
+    for (p, share) in shares.iter().enumerate() {
+        tested(
+            Refusal::Surplus,
+            Place::Share(p as u32),
+            *share,
+            0,
+            4_000_000_000,
+        )?;
     }
-    none()
+    Ok(())
 }
 
 // A surplus that nobody has a share of.
-fn unshared_cause(surplus: i64, shares: &[i64]) -> Cause
+#[tactic(auto, unfolding(hour::specs::Cause::unshared_cause))]
+fn unshared_cause(surplus: i64, shares: &[i64]) -> Result<(), Cause>
     requires { Shares shares.now }
-    ensures { result ≡ unshared_cause surplus shares.now }
+    ensures { told result ≡ unshared_cause surplus shares.now }
 {
     if 0 < split_parts::total_of(shares) {
-        return none();
+        return Ok(());
     }
-    tested(7, 6, 0, 0, surplus, 0, 0)
+    tested(Refusal::NoShares, Place::Surplus, surplus, 0, 0)
 }
 
 // The surplus, then the shares, then whether there is any.
-pub fn surplus_cause(surplus: i64, shares: &[i64]) -> Cause
+#[tactic(auto, using(hour::proofs::Told::tests), unfolding(hour::specs::Cause::surplus_cause))]
+pub fn surplus_cause(surplus: i64, shares: &[i64]) -> Result<(), Cause>
     requires { length shares.now ≤ 64 }
-    ensures { result ≡ surplus_cause surplus shares.now }
+    ensures { told result ≡ surplus_cause surplus shares.now }
 {
-    let cause = tested(10, 6, 0, 0, surplus, -1_000_000_000, 1_000_000_000);
-    if cause.refusal != 0 {
-        return cause;
-    }
-    let cause = shares_cause(shares);
-    if cause.refusal != 0 {
-        return cause;
-    }
+    tested(
+        Refusal::Surplus,
+        Place::Surplus,
+        surplus,
+        -1_000_000_000,
+        1_000_000_000,
+    )?;
+    shares_cause(shares)?;
     unshared_cause(surplus, shares)
 }
 
-// The seven numbers of a cause.
-pub fn put_cause(cause: Cause, list: &mut [u8])
-    requires { length list.old ≡ 56 }
-    ensures { list.new ≡ encoded (cause_numbers cause) }
+// The numbers of a place: its part, which one of that part, and which field of it.
+fn part_of(place: Place) -> u32
+    ensures { result ≡ part_of place }
 {
-    let seven = [
-        cause.refusal as i64,
-        cause.part as i64,
-        cause.number as i64,
-        cause.field as i64,
-        cause.found,
-        cause.least,
-        cause.most,
-    ];
+    match place {
+        Place::File => 1,
+        Place::Header(_) => 2,
+        Place::Price(_) => 3,
+        Place::Row(_, _) => 4,
+        Place::Transaction(_, _) => 5,
+        Place::Surplus => 6,
+        Place::Share(_) => 7,
+        Place::List(_) => 8,
+    }
+}
+
+fn number_of(place: Place) -> u32
+    ensures { result ≡ number_of place }
+{
+    match place {
+        Place::Price(i) | Place::Row(i, _) | Place::Transaction(i, _) | Place::Share(i) => i,
+        Place::File | Place::Header(_) | Place::Surplus | Place::List(_) => 0,
+    }
+}
+
+fn field_of(place: Place) -> u32
+    ensures { result ≡ field_of place }
+{
+    match place {
+        Place::Header(field) => field as u32,
+        Place::Row(_, field) => field as u32,
+        Place::Transaction(_, field) => field as u32,
+        Place::List(field) => field as u32,
+        Place::File | Place::Price(_) | Place::Surplus | Place::Share(_) => 0,
+    }
+}
+
+// The seven numbers of a cause, zeros where nothing is refused.
+pub fn put_cause(cause: Result<(), Cause>, list: &mut [u8])
+    requires { length list.old ≡ 56 }
+    ensures { list.new ≡ encoded (cause_numbers (told cause)) }
+{
+    let seven = match cause {
+        Ok(()) => [0; 7],
+        Err(cause) => [
+            i64::from(u32::from(cause.refusal)),
+            i64::from(part_of(cause.place)),
+            i64::from(number_of(cause.place)),
+            i64::from(field_of(cause.place)),
+            cause.found,
+            cause.least,
+            cause.most,
+        ],
+    };
     numbers::write_all(&seven, list);
 }

@@ -6,6 +6,7 @@ ghost use Rattle.ints.specs.Sum.{sum};
 ghost use Rattle.hour.specs.Cause.{surplus_cause, credits_cause};
 ghost use Rattle.hour.specs.InsideTotals.{rounded};
 ghost use Rattle.hour.specs.Order.{content_refusal};
+ghost use Rattle.hour.specs.InsideTold.{told};
 ghost use Rattle.exercise.specs.Cause.{hour_cause};
 ghost use Rattle.exercise.specs.File.{hour_of};
 ghost use Rattle.exercise.specs.Order.{frame_refusal, spare_of};
@@ -13,36 +14,37 @@ ghost use Rattle.hour_find.specs.Inside.{Empty};
 
 use hour::Cause;
 
-// Of exact loss charges and shares.
-fn rounded_cause(exact_loss: &mut [i64], shares: &[i64]) -> Cause
+// The cause by exact loss charges and shares.
+fn rounded_cause(exact_loss: &mut [i64], shares: &[i64]) -> Result<(), Cause>
     requires { (length exact_loss.old ≤ 64) × (length shares.now ≤ 64) }
-    ensures { result ≡ surplus_cause (sum (rounded exact_loss.old)) shares.now }
+    ensures { told result ≡ surplus_cause (sum (rounded exact_loss.old)) shares.now }
 {
     hour_credits::round(exact_loss);
     hour_cause::surplus_cause(ints::sum(exact_loss), shares)
 }
 
-// Of the surplus and the shares of a file that passes the order to its last transaction, which are added up in lists of zeros as long as the participants.
+// The cause by the surplus and the shares of a file that passes the order to its last transaction, which are added up in lists of zeros as long as the participants.
 fn charged_cause(
     file: &[u8],
     exact_congestion: &mut [i64],
     exact_loss: &mut [i64],
     shares: &mut [i64],
-) -> Cause
+) -> Result<(), Cause>
     requires file_value { frame_refusal file.now ≡ 0 }
     requires file_value_2 { content_refusal (hour_of file.now) (spare_of file.now) ≡ 0 }
     requires empty { Empty (hour_of file.now).participants exact_congestion.old × Empty (hour_of file.now).participants exact_loss.old × Empty (hour_of file.now).participants shares.old }
-    ensures { result ≡ credits_cause (hour_of file.now) }
+    ensures { told result ≡ credits_cause (hour_of file.now) }
 {
-    hour_charge::charge_hour(file, exact_congestion, exact_loss, shares);
+    // It isn't refused: the file has passed.
+    let _ = hour_charge::charge_hour(file, exact_congestion, exact_loss, shares);
     rounded_cause(exact_loss, shares)
 }
 
 // The same with lists of its own.
-fn credits_cause(file: &[u8]) -> Cause
+fn credits_cause(file: &[u8]) -> Result<(), Cause>
     requires file_value { frame_refusal file.now ≡ 0 }
     requires file_value_2 { content_refusal (hour_of file.now) (spare_of file.now) ≡ 0 }
-    ensures { result ≡ credits_cause (hour_of file.now) }
+    ensures { told result ≡ credits_cause (hour_of file.now) }
 {
     let mut exact_congestion = [0i64; 64];
     let mut exact_loss = [0i64; 64];
@@ -56,17 +58,12 @@ fn credits_cause(file: &[u8]) -> Cause
     )
 }
 
-// Of the file.
-pub fn find_cause(file: &[u8]) -> Cause
-    ensures { result ≡ hour_cause file.now }
+// Why a file is refused, by all of the order.
+#[tactic(auto, using(hour::proofs::Told::tests), unfolding(exercise::specs::Cause::hour_cause))]
+pub fn find_cause(file: &[u8]) -> Result<(), Cause>
+    ensures { told result ≡ hour_cause file.now }
 {
-    let cause = exercise_cause::frame_cause(file);
-    if cause.refusal != 0 {
-        return cause;
-    }
-    let cause = exercise_cause::content_cause(file);
-    if cause.refusal != 0 {
-        return cause;
-    }
+    exercise_cause::frame_cause(file)?;
+    exercise_cause::content_cause(file)?;
     credits_cause(file)
 }

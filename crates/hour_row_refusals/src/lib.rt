@@ -1,32 +1,44 @@
 // What is refused of a row, and of a transaction (document 01, "Order for an hour"). Their numbers are wide here, so that those of a file and those that somebody hands
-// over are tested alike.
+// over are tested alike. Participants and locations are any numbers here, so they aren't `hour::Sizes`, which are in range.
 #![tactic(auto)]
 
 ghost use Rattle.std.specs.Prelude.{◌≡◌, eqb};
 ghost use Rattle.ints.specs.Refusal.{unless};
-ghost use Rattle.ints.specs.Turn.{◌then◌};
-ghost use Rattle.hour.specs.Order.{has_kind, has_interval, row_refusal, packed_row_refusal, transaction_refusal, packed_transaction_refusal};
+ghost use Rattle.refusals.specs.Number.{answer};
+ghost use Rattle.hour.specs.Numbers.{as_row, as_transaction};
+ghost use Rattle.hour.specs.Order.{is_price, has_kind, has_interval, row_refusal, packed_row_refusal, transaction_refusal, packed_transaction_refusal};
 
-use hour::{INCREMENT_OFFER, REAL_TIME, Row, Transaction};
+use hour::{INCREMENT_OFFER, REAL_TIME, Row, RowNumbers, Transaction, TransactionNumbers};
+use refusals::Refusal;
+
+// What is refused of a price.
+pub fn price_refusal(price: i64) -> Result<(), Refusal>
+    ensures { answer result ≡ unless (is_price price) 2 0 }
+{
+    if !ints::is_between(price, -5_000_000, 5_000_000) {
+        return Err(Refusal::Range);
+    }
+    Ok(())
+}
 
 // Whether the market has the kind, and the interval. A market read from a file has one bit and a kind three, so that the first tests cost nothing there; and what a market
 // allows is worked out of it, so that there is no branch.
 fn has_kind(market: u64, kind: u64) -> bool
     ensures { result ≡ has_kind market kind }
 {
-    if market > REAL_TIME as u64 {
+    if market > u64::from(REAL_TIME) {
         return false;
     }
     if kind > 7 {
         return false;
     }
-    kind + 2 * market <= INCREMENT_OFFER as u64
+    kind + 2 * market <= u64::from(INCREMENT_OFFER)
 }
 
 fn has_interval(market: u64, interval: u64) -> bool
     ensures { result ≡ has_interval market interval }
 {
-    if market > REAL_TIME as u64 {
+    if market > u64::from(REAL_TIME) {
         return false;
     }
     interval <= 11 * market
@@ -34,193 +46,137 @@ fn has_interval(market: u64, interval: u64) -> bool
 
 // Whether nothing is refused of a row of these numbers. The tests are joined without a branch, since a market or a kind is as likely as another, and a branch that can't
 // be foretold costs more than all of them.
-fn row_numbers_pass(
-    participants: u64,
-    locations: u64,
-    market: u64,
-    kind: u64,
-    interval: u64,
-    participant: u64,
-    location: u64,
-    kw: u64,
-) -> bool
-    ensures { result ≡ eqb (row_refusal participants locations (record { market = market; kind = kind; interval = interval; participant = participant; location = location; kw = record { 0 = kw } })) 0 }
+#[tactic(auto, unfolding(hour::specs::Order::row_refusal))]
+fn row_numbers_pass(participants: u64, locations: u64, numbers: RowNumbers) -> bool
+    ensures { result ≡ eqb (row_refusal participants locations (as_row numbers)) 0 }
 {
     ints::both(
-        has_kind(market, kind),
+        has_kind(numbers.market, numbers.kind),
         ints::both(
-            has_interval(market, interval),
+            has_interval(numbers.market, numbers.interval),
             ints::both(
-                participant < participants,
-                ints::both(location < locations, kw <= 20_000_000),
+                numbers.participant < participants,
+                ints::both(numbers.location < locations, numbers.kw <= 20_000_000),
             ),
         ),
     )
 }
 
-// The refusal of a row of these numbers, 0 where there is none.
+// What is refused of a row of these numbers.
+#[tactic(auto, unfolding(hour::specs::Order::row_refusal))]
 pub fn row_numbers_refusal(
     participants: u64,
     locations: u64,
-    market: u64,
-    kind: u64,
-    interval: u64,
-    participant: u64,
-    location: u64,
-    kw: u64,
-) -> u32
-    ensures { result ≡ row_refusal participants locations (record { market = market; kind = kind; interval = interval; participant = participant; location = location; kw = record { 0 = kw } }) }
+    numbers: RowNumbers,
+) -> Result<(), Refusal>
+    ensures { answer result ≡ row_refusal participants locations (as_row numbers) }
 {
-    if row_numbers_pass(
-        participants,
-        locations,
-        market,
-        kind,
-        interval,
-        participant,
-        location,
-        kw,
-    ) {
-        return 0;
+    if row_numbers_pass(participants, locations, numbers) {
+        return Ok(());
     }
-    if !has_kind(market, kind) {
-        return 4;
+    if !has_kind(numbers.market, numbers.kind) {
+        return Err(Refusal::Kind);
     }
-    if !has_interval(market, interval) {
-        return 4;
+    if !has_interval(numbers.market, numbers.interval) {
+        return Err(Refusal::Kind);
     }
-    if participant >= participants {
-        return 3;
+    if numbers.participant >= participants {
+        return Err(Refusal::Identity);
     }
-    if location >= locations {
-        return 3;
+    if numbers.location >= locations {
+        return Err(Refusal::Identity);
     }
-    2
+    Err(Refusal::Range)
 }
 
-// A refusal, and where it is 0 that of spare bits.
-fn with_spare(refusal: u32, spare: u64) -> u32
-    ensures { result ≡ (refusal then unless (eqb spare 0) 9 0) }
+// "All spare bits are 0".
+fn spare_refusal(spare: u64) -> Result<(), Refusal>
+    ensures { answer result ≡ unless (eqb spare 0) 9 0 }
 {
-    if refusal != 0 {
-        return refusal;
-    }
     if spare != 0 {
-        return 9;
+        return Err(Refusal::File);
     }
-    0
+    Ok(())
 }
 
-// The refusal of a row with its spare bits, 0 where there is none.
-pub fn packed_row_refusal(participants: usize, locations: usize, row: Row, spare: u64) -> u32
-    ensures { result ≡ packed_row_refusal participants locations row spare }
+// What is refused of a row with its spare bits.
+#[tactic(auto, unfolding(hour::specs::Order::packed_row_refusal))]
+pub fn packed_row_refusal(
+    participants: usize,
+    locations: usize,
+    row: Row,
+    spare: u64,
+) -> Result<(), Refusal>
+    ensures { answer result ≡ packed_row_refusal participants locations row spare }
 {
-    let refusal = row_numbers_refusal(
-        participants as u64,
-        locations as u64,
-        row.market as u64,
-        row.kind as u64,
-        row.interval as u64,
-        row.participant as u64,
-        row.location as u64,
-        row.kw.0 as u64,
-    );
-    with_spare(refusal, spare)
+    row_numbers_refusal(participants as u64, locations as u64, RowNumbers::from(row))?;
+    spare_refusal(spare)
 }
 
 // Whether nothing is refused of a transaction of these numbers.
-fn transaction_numbers_pass(
-    participants: u64,
-    locations: u64,
-    market: u64,
-    interval: u64,
-    participant: u64,
-    seller: u64,
-    source: u64,
-    sink: u64,
-    kw: u64,
-) -> bool
-    ensures { result ≡ eqb (transaction_refusal participants locations (record { market = market; interval = interval; participant = participant; seller = seller; source = source; sink = sink; kw = record { 0 = kw } })) 0 }
+#[tactic(auto, unfolding(hour::specs::Order::transaction_refusal))]
+fn transaction_numbers_pass(participants: u64, locations: u64, numbers: TransactionNumbers) -> bool
+    ensures { result ≡ eqb (transaction_refusal participants locations (as_transaction numbers)) 0 }
 {
     ints::both(
-        has_interval(market, interval),
+        has_interval(numbers.market, numbers.interval),
         ints::both(
-            participants > participant,
+            participants > numbers.participant,
             ints::both(
-                participants > seller,
+                participants > numbers.seller,
                 ints::both(
-                    locations > source,
-                    ints::both(locations > sink, 20_000_000 >= kw),
+                    locations > numbers.source,
+                    ints::both(locations > numbers.sink, 20_000_000 >= numbers.kw),
                 ),
             ),
         ),
     )
 }
 
-// The refusal of a transaction of these numbers, 0 where there is none.
+// What is refused of a transaction of these numbers.
+#[tactic(auto, unfolding(hour::specs::Order::transaction_refusal))]
 pub fn transaction_numbers_refusal(
     participants: u64,
     locations: u64,
-    market: u64,
-    interval: u64,
-    participant: u64,
-    seller: u64,
-    source: u64,
-    sink: u64,
-    kw: u64,
-) -> u32
-    ensures { result ≡ transaction_refusal participants locations (record { market = market; interval = interval; participant = participant; seller = seller; source = source; sink = sink; kw = record { 0 = kw } }) }
+    numbers: TransactionNumbers,
+) -> Result<(), Refusal>
+    ensures { answer result ≡ transaction_refusal participants locations (as_transaction numbers) }
 {
-    if transaction_numbers_pass(
-        participants,
-        locations,
-        market,
-        interval,
-        participant,
-        seller,
-        source,
-        sink,
-        kw,
-    ) {
-        return 0;
+    if transaction_numbers_pass(participants, locations, numbers) {
+        return Ok(());
     }
-    if !has_interval(market, interval) {
-        return 4;
+    if !has_interval(numbers.market, numbers.interval) {
+        return Err(Refusal::Kind);
     }
-    if participants <= participant {
-        return 3;
+    if participants <= numbers.participant {
+        return Err(Refusal::Identity);
     }
-    if participants <= seller {
-        return 3;
+    if participants <= numbers.seller {
+        return Err(Refusal::Identity);
     }
-    if source >= locations {
-        return 3;
+    if numbers.source >= locations {
+        return Err(Refusal::Identity);
     }
-    if sink >= locations {
-        return 3;
+    if numbers.sink >= locations {
+        return Err(Refusal::Identity);
     }
-    2
+    Err(Refusal::Range)
 }
 
-// The refusal of a transaction with the spare bits beside it, 0 where there is none.
+// What is refused of a transaction with the spare bits beside it.
+#[tactic(auto, unfolding(hour::specs::Order::packed_transaction_refusal))]
 pub fn packed_transaction_refusal(
     participants: usize,
     locations: usize,
     transaction: Transaction,
     beside: u64,
-) -> u32
-    ensures { result ≡ packed_transaction_refusal participants locations transaction beside }
+) -> Result<(), Refusal>
+    ensures { answer result ≡ packed_transaction_refusal participants locations transaction beside }
 {
-    let refusal = transaction_numbers_refusal(
+    transaction_numbers_refusal(
         participants as u64,
         locations as u64,
-        transaction.market as u64,
-        transaction.interval as u64,
-        transaction.participant as u64,
-        transaction.seller as u64,
-        transaction.source as u64,
-        transaction.sink as u64,
-        transaction.kw.0 as u64,
-    );
-    with_spare(refusal, beside)
+        TransactionNumbers::from(transaction),
+    )?;
+    spare_refusal(beside)
 }

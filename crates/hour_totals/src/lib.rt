@@ -48,7 +48,7 @@ fn add_amount(totals: &mut [i64], p: usize, amount: Twelfths)
     requires { (p < length totals.old) × SFits w64 (totals.old at p +ℤ amount.0) }
     ensures { totals.new ≡ set totals.old p (totals.old at p +ℤ amount.0) }
 {
-    totals[p] = totals[p] + amount.0;
+    totals[p] += amount.0;
 }
 
 // A row's part, added to its participant's total.
@@ -151,7 +151,7 @@ fn add_kw(shares: &mut [i64], p: usize, kw: Kw)
     requires { (p < length shares.old) × SFits w64 (shares.old at p +ℤ pos kw.0) }
     ensures { shares.new ≡ set shares.old p (shares.old at p +ℤ pos kw.0) }
 {
-    shares[p] = shares[p] + kw.0 as i64;
+    shares[p] += kw.0 as i64;
 }
 
 // A row's kW, added to its participant's share where they count.

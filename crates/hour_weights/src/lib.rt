@@ -16,7 +16,7 @@ fn mills_at(table: &[i32], i: usize) -> Mills
     requires { (i < length table.now) × Within (table.now at i) 120000000 }
     ensures { result.0 ≡ table.now at i }
 {
-    Mills(table[i] as i64)
+    Mills(i64::from(table[i]))
 }
 
 // "Each interval's prices are read from their own stretch of the list": a stage's, which starts at stage times locations. Day-ahead is stage 0, interval k is stage k + 1.
@@ -39,10 +39,8 @@ fn ahead_weight(list: &[i32], locations: usize, l: usize) -> Mills
     ensures { result.0 ≡ ahead_weight (listed_prices locations list.now) l }
 {
     let mut weight = units::whole_hour(mills_at(list, l)).0;
-    let mut k: usize = 0;
-    while k < 12 {
-        weight = weight - mills_at(stage_prices(list, locations, k + 1), l).0;
-        k += 1;
+    for k in 0..12 {
+        weight -= mills_at(stage_prices(list, locations, k + 1), l).0;
     }
     Mills(weight)
 }
@@ -61,11 +59,9 @@ pub fn weigh(list: &mut [i32], locations: usize)
     requires { Listed locations list.old }
     ensures { list.new ≡ weighed locations list.old }
 {
-    let mut l: usize = 0;
-    while l < locations {
+    for l in 0..locations {
         let weight = ahead_weight(list, locations, l);
         put(list, l, weight);
-        l += 1;
     }
 }
 

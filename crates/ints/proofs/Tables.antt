@@ -7,7 +7,8 @@ use Prim.Native.Nat.{ℕ, zero, suc, ◌+◌, ◌≤◌, ◌<◌}
 use native.Mathlib.Nat.{eq-or-lt_of_le, le_of_suc-le-suc, not-suc-le-zero}
 use native.Mathlib.Numerals.{add-one}
 use native.Mathlib.Omega.{arith}
-use lib.ListN.{length, get_or, take, drop, set, length-append, length-drop, length-set, get_or-append, drop_of_length-le, take-append-drop}
+use Rattle.std.proofs.lemmas.List.{length-take-le, replicate-append-replicate}
+use lib.ListN.{length, get_or, take, replicate, drop, set, length-append, length-drop, length-set, get_or-append, drop_of_length-le, take-append-drop}
 use lib.Seq.{take-suc-set, take_all, get_or_at, get_or-take, get_or-drop, get_or-set_other, drop-cons, ext_get_or}
 use Rattle.ints.specs.Table.{tab, all}
 use Rattle.ints.proofs.Bools.{and-true, and-nothing, and_assoc}
@@ -55,6 +56,18 @@ tab-self d l = ext_get_or d l (tab (λ i. get_or l i d) (length l)) (sym (length
 
 pub tab-copy : {A : Type 0} (d : A) (l : List A) {n : ℕ} → n ≡ length l → tab (λ i. get_or l i d) n ≡ l
 tab-copy d l e = ap (tab (λ i. get_or l i d)) e ∙ sym (tab-self d l)
+
+-- the front of a list is its first numbers, and a list of one number is that number throughout
+pub take-tab : {A : Type 0} (d : A) (l : List A) (n : ℕ) → n ≤ length l → take n l ≡ tab (λ i. get_or l i d) n
+take-tab d l n h =
+    ext_get_or d (take n l) (tab (λ i. get_or l i d) n)
+    (length-take-le n l h ∙ sym (length-tab (λ i. get_or l i d) n))
+    (λ i m. let k : i < n = omega (arith, length-take-le n l h) in get_or-take n l i d k ∙ sym (get_or-tab (λ i. get_or l i d) d n i k))
+
+pub replicate-tab : {A : Type 0} (x : A) (n : ℕ) → replicate n x ≡ tab (λ i. x) n
+unfolding tab
+replicate-tab x zero = refl
+replicate-tab x (suc n) = ap (λ (k : ℕ). replicate k x) (sym (add-one n)) ∙ sym (replicate-append-replicate n 1 x) ∙ ap (λ (t : List _). t ++ (x ∷ [])) (replicate-tab x n)
 
 -- a loop that changes the numbers of a list where they are: the first i are f's, and the others are as they were
 module _ {A : Type 0} (d : A) (f : ℕ → A) (before : List A) where

@@ -13,7 +13,6 @@ use Rattle.ints.proofs.is_between.Reads as is-between
 use Rattle.ints.proofs.negative.Reads as negative
 use Rattle.ints.proofs.size.Reads as size
 use Rattle.ints.proofs.sum.Reads as sum
-use Rattle.ints.proofs.wide.Reads as wide
 use Rattle.ints.proofs.with_sign.Reads as with-sign
 
 -- two results that are both what a definition gives
@@ -28,9 +27,6 @@ negative-unique a r s e f p q = unique p q
 
 pub with-sign-unique : (a : _) (r s : ℤ) (e f : _) → with-sign.Post tt a r e → with-sign.Post tt a s f → r ≡ s
 with-sign-unique a r s e f p q = unique p q
-
-pub wide-unique : (a : _) (r s : ℕ) (e f : _) → wide.Post tt a r e → wide.Post tt a s f → r ≡ s
-wide-unique a r s e f p q = unique p.0 q.0
 
 pub is-between-unique : (a : _) (r s : Bool) (e f : _) → is-between.Post tt a r e → is-between.Post tt a s f → r ≡ s
 is-between-unique a r s e f p q = unique p q

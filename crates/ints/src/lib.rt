@@ -11,11 +11,7 @@ ghost use Rattle.ints.specs.Table.{◌at◌, tab, all};
 pub fn size(x: i64) -> u64
     ensures { result ≡ nat_abs x }
 {
-    if x < 0 {
-        (-(x + 1)) as u64 + 1
-    } else {
-        x as u64
-    }
+    x.unsigned_abs()
 }
 
 // Whether a number is below 0.
@@ -31,13 +27,6 @@ pub fn with_sign(neg: bool, n: u64) -> i64
     ensures { result ≡ signed neg n }
 {
     if neg { -(n as i64) } else { n as i64 }
-}
-
-// A byte, wide. Its bound is said here once, so that no reader of a byte has to.
-pub fn wide(x: u8) -> u64
-    ensures { (result ≡ x) × (result < 256) }
-{
-    x as u64
 }
 
 // Whether a number is low to high.
@@ -59,10 +48,8 @@ pub fn all_between(list: &[i64], low: i64, high: i64) -> bool
     ensures { result ≡ all (between low high) list.now }
 {
     let mut passed = true;
-    let mut i: usize = 0;
-    while i < list.len() {
-        passed = both(passed, is_between(list[i], low, high));
-        i += 1;
+    for x in list {
+        passed = both(passed, is_between(*x, low, high));
     }
     passed
 }
@@ -73,10 +60,8 @@ pub fn sum(list: &[i64]) -> i64
     ensures { result ≡ Sum·sum list.now }
 {
     let mut total: i64 = 0;
-    let mut i: usize = 0;
-    while i < list.len() {
-        total += list[i];
-        i += 1;
+    for x in list {
+        total += *x;
     }
     total
 }
@@ -85,21 +70,13 @@ pub fn sum(list: &[i64]) -> i64
 pub fn clear(list: &mut [i64])
     ensures { list.new ≡ tab (λ _. pos 0) (length list.old) }
 {
-    let mut i: usize = 0;
-    while i < list.len() {
-        list[i] = 0;
-        i += 1;
-    }
+    list.fill(0);
 }
 
-// A list's front, copied into another list.
+// A list's front, copied into another list; the contract says of a copy what a table says.
 pub fn copy(from: &[i64], to: &mut [i64])
     requires { length to.old ≤ length from.now }
     ensures { to.new ≡ tab (λ i. from.now at i) (length to.old) }
 {
-    let mut i: usize = 0;
-    while i < to.len() {
-        to[i] = from[i];
-        i += 1;
-    }
+    to.copy_from_slice(&from[..to.len()]);
 }

@@ -1,11 +1,11 @@
 -- The split as the assignment uses it: totals, sizes, and a list whose front holds the parts. Assumes nothing.
-use mathlib.Core.Path.{◌≡◌, refl, sym, ap, ap₂, ◌∙◌, subst}
-use mathlib.Core.List.{List, ◌++◌}
+use mathlib.Core.Path.{◌≡◌, refl, sym, ap, ap₂, ◌∙◌}
+use mathlib.Core.List.{List}
 use mathlib.Core.Bool.{Bool, true, false, ◌&&◌}
 use Prim.Native.Nat.{ℕ, ◌+◌, ◌*◌, ◌≤◌, ◌<◌}
 use native.Mathlib.Omega.{arith}
 use lib.IntN.{ℤ, pos, neg_ℤ, nat_abs}
-use lib.ListN.{length, drop, length-append, length-drop, get_or-append}
+use lib.ListN.{length, drop, length-drop}
 use lib.Seq.{length-take-le}
 use borrow.Author.Tests.{le-leb, le-ltb, eq-eqb}
 use Rattle.ints.specs.Number.{below0, signed, between}
@@ -20,11 +20,10 @@ use Rattle.ints.proofs.Tables.{get_or-tab}
 use Rattle.split.specs.Split.{share, total, part, parts, split_refusal}
 use Rattle.split.specs.Inside.{Shares}
 use Rattle.split.proofs.Accepted.{from_total_refusal, with-total}
-use Rattle.split.proofs.Laws.{length-parts}
 use Rattle.split.proofs.Sizes.{part-size}
 use Rattle.load.specs.Load.{parts_of}
 use Rattle.load.specs.InsideTable.{FrontWithin}
-use Rattle.load.specs.Inside.{Splittable, Portion, Ranged}
+use Rattle.load.specs.Inside.{Splittable, Ranged}
 
 -- the sum of shares is their total
 pub short-of : {shares : List ℤ} → Shares shares → Short shares
@@ -54,18 +53,8 @@ part-natural {amount} {shares} s i l =
 pub part-ranged : {amount : ℤ} {shares : List ℤ} → Splittable amount shares → (i : ℕ) → i < length shares → Ranged (parts amount shares at i)
 part-ranged s i l = record { natural = part-natural s i l ∙ ap (λ (z : ℤ). pos (nat_abs z)) (sym (part-natural s i l)); small = (part-within s i l).within }
 
--- a list whose front is the parts
-pub portion-of : (amount : ℤ) (shares made rest : List ℤ) → made ≡ parts amount shares → Portion amount shares (made ++ rest)
-portion-of amount shares made rest e = record {
-  long = omega (arith, length-append made rest, long);
-  each = λ i l. get_or-append made rest (pos 0) i (omega (arith, long)) ∙ ap (λ (list : List ℤ). list at i) e;
-}
-  where
-    long : length made ≡ length shares
-    long = ap length e ∙ length-parts amount shares
-
-pub portion-range : {amount : ℤ} {shares made : List ℤ} → Splittable amount shares → Portion amount shares made → FrontWithin made (length shares) 1000000000000
-portion-range s p = record { each = λ i l. subst (λ (z : ℤ). Within z 1000000000000) (sym (p.each i l)) (w-up (part-within s i l) (omega arith)) }
+pub parts-range : {amount : ℤ} {shares : List ℤ} → Splittable amount shares → FrontWithin (parts amount shares) (length shares) 1000000000000
+parts-range s = record { each = λ i l. w-up (part-within s i l) (omega arith) }
 
 -- an area's stretch of the list is as long as there are buses
 pub length-stretch : (n : ℕ) (area_parts : List ℤ) (a : ℕ) → a * n + n ≤ length area_parts → length (parts_of n area_parts a) ≡ n

@@ -19,11 +19,6 @@ pub record Splittable (amount : ℤ) (shares : List ℤ) : Type 0 where
   pub accepted : split_refusal amount shares (length shares) ≡ 0
   pub ranged : Ranged amount
 
--- a list whose front is the parts
-pub record Portion (amount : ℤ) (shares made : List ℤ) : Type 0 where
-  pub long : length shares ≤ length made
-  pub each : (i : ℕ) → i < length shares → made at i ≡ parts amount shares at i
-
 -- so many areas' parts, for n buses
 pub record Areas (areas n : ℕ) (area_parts : List ℤ) : Type 0 where
   pub few : n ≤ 64

@@ -1,4 +1,5 @@
 pub mod Load
+pub mod Given
 pub mod Order
 pub mod Fair
 pub mod InsideTable

@@ -5,119 +5,84 @@ ghost use Rattle.std.specs.Prelude.{◌≡◌, ◌≤◌, ◌<◌, eqb, length, 
 ghost use Rattle.ints.specs.Each.{all_to};
 ghost use Rattle.ints.specs.Number.{between};
 ghost use Rattle.ints.specs.InsideRange.{Within};
+ghost use Rattle.refusals.specs.Number.{answer};
 ghost use Rattle.split.specs.Split.{total};
 ghost use Rattle.split.specs.Inside.{Shares};
-ghost use Rattle.load.specs.Load.{area_count, kw, contract_count, parts_of, load_given};
+ghost use Rattle.load.specs.Load.{area_count, kw, contract_count, parts_of};
+ghost use Rattle.load.specs.Given.{given_of};
 ghost use Rattle.load.specs.Order.{named as Order·named, counts_refusal, lengths_refusal, ranges_refusal, identities_refusal, areas_refusal, lists_refusal};
 ghost use Rattle.load.specs.Inside.{Areas};
 
+use load::Given;
+use refusals::Refusal;
+
 // 1: counts.
-fn counts_refusal(
-    loads: &[i64],
-    imports: &[i64],
-    generation: &[i64],
-    areas: i64,
-    contracts: &[i64],
-) -> u32
-    ensures { result ≡ counts_refusal loads.now imports.now generation.now areas contracts.now }
+#[tactic(auto, unfolding(load::specs::Order::counts_refusal))]
+fn counts_refusal(given: Given) -> Result<(), Refusal>
+    ensures { let d = given_of given.entry in answer result ≡ counts_refusal d.loads d.imports d.generation d.areas d.contracts }
 {
-    if loads.len() < 1 {
-        return 1;
+    if given.loads.is_empty() || 64 < given.loads.len() {
+        return Err(Refusal::Length);
     }
-    if 64 < loads.len() {
-        return 1;
+    if !ints::is_between(given.areas, 0, 16) {
+        return Err(Refusal::Length);
     }
-    if !ints::is_between(areas, 0, 16) {
-        return 1;
+    if 256 < given.contracts.len() / 3 {
+        return Err(Refusal::Length);
     }
-    if 256 < contracts.len() / 3 {
-        return 1;
+    if 64 < given.imports.len() {
+        return Err(Refusal::Length);
     }
-    if 64 < imports.len() {
-        return 1;
+    if 64 < given.generation.len() {
+        return Err(Refusal::Length);
     }
-    if 64 < generation.len() {
-        return 1;
-    }
-    0
+    Ok(())
 }
 
 // 1: lengths. n is that of the list lent for the result.
-fn lengths_refusal(
-    loads: &[i64],
-    areas: i64,
-    area_parts: &[i64],
-    contracts: &[i64],
-    tranches: &[i64],
-    n: usize,
-) -> u32
-    requires { (length loads.now ≤ 64) × Within areas 16 }
-    ensures { result ≡ lengths_refusal loads.now areas area_parts.now contracts.now tranches.now n }
+#[tactic(auto, unfolding(load::specs::Order::lengths_refusal))]
+fn lengths_refusal(given: Given, n: usize) -> Result<(), Refusal>
+    requires { (length given.loads.now ≤ 64) × Within given.areas 16 }
+    ensures { let d = given_of given.entry in answer result ≡ lengths_refusal d.loads d.areas d.area_parts d.contracts d.tranches n }
 {
-    if area_parts.len() != ints::size(areas) as usize * loads.len() {
-        return 1;
+    if given.area_parts.len() != ints::size(given.areas) as usize * given.loads.len()
+        || given.contracts.len() % 3 != 0
+        || given.tranches.len() != 64
+        || n != 64 * given.loads.len()
+    {
+        return Err(Refusal::Length);
     }
-    if contracts.len() % 3 != 0 {
-        return 1;
-    }
-    if tranches.len() != 64 {
-        return 1;
-    }
-    if n != 64 * loads.len() {
-        return 1;
-    }
-    0
+    Ok(())
 }
 
 // Whether every contract's kW is in range.
 fn kw_between(contracts: &[i64]) -> bool
     ensures { result ≡ all_to (λ j. between (pos 0) (pos 20000000) (kw contracts.now j)) (contract_count contracts.now) }
 {
-    let n = contracts.len() / 3;
-    let mut j: usize = 0;
-    while j < n {
-        if !ints::is_between(contracts[3 * j + 2], 0, 20_000_000) {
+    for j in 0..contracts.len() / 3 {
+        if !ints::is_between(load::contract_at(contracts, j).kw, 0, 20_000_000) {
             return false;
         }
-        j += 1;
     }
     true
 }
 
 // 2: ranges.
-fn ranges_refusal(
-    metered: i64,
-    loads: &[i64],
-    imports: &[i64],
-    generation: &[i64],
-    area_parts: &[i64],
-    contracts: &[i64],
-    tranches: &[i64],
-) -> u32
-    ensures { result ≡ ranges_refusal metered loads.now imports.now generation.now area_parts.now contracts.now tranches.now }
+#[tactic(auto, unfolding(load::specs::Order::ranges_refusal))]
+fn ranges_refusal(given: Given) -> Result<(), Refusal>
+    ensures { let d = given_of given.entry in answer result ≡ ranges_refusal d.metered d.loads d.imports d.generation d.area_parts d.contracts d.tranches }
 {
-    if !ints::is_between(metered, 0, 1) {
-        return 2;
+    if !ints::is_between(given.metered, 0, 1)
+        || !ints::all_between(given.loads, 0, 20_000_000)
+        || !ints::all_between(given.imports, -20_000_000, 20_000_000)
+        || !ints::all_between(given.generation, 0, 20_000_000)
+        || !ints::all_between(given.area_parts, 0, 1_000_000)
+        || !kw_between(given.contracts)
+        || !ints::all_between(given.tranches, 0, 10_000)
+    {
+        return Err(Refusal::Range);
     }
-    if !ints::all_between(loads, 0, 20_000_000) {
-        return 2;
-    }
-    if !ints::all_between(imports, -20_000_000, 20_000_000) {
-        return 2;
-    }
-    if !ints::all_between(generation, 0, 20_000_000) {
-        return 2;
-    }
-    if !ints::all_between(area_parts, 0, 1_000_000) {
-        return 2;
-    }
-    if !kw_between(contracts) {
-        return 2;
-    }
-    if !ints::all_between(tranches, 0, 10_000) {
-        return 2;
-    }
-    0
+    Ok(())
 }
 
 // Whether contract j names a participant and an area.
@@ -126,8 +91,8 @@ fn is_named(contracts: &[i64], j: usize, areas: i64) -> bool
     requires within { Within areas 16 }
     ensures { result ≡ Order·named areas contracts.now j }
 {
-    ints::is_between(contracts[3 * j], 0, 63)
-        && ints::is_between(contracts[3 * j + 1], 0, areas - 1)
+    let contract = load::contract_at(contracts, j);
+    ints::is_between(contract.supplier, 0, 63) && ints::is_between(contract.area, 0, areas - 1)
 }
 
 // Whether every contract does.
@@ -135,29 +100,24 @@ fn all_named(contracts: &[i64], areas: i64) -> bool
     requires { Within areas 16 }
     ensures { result ≡ all_to (Order·named areas contracts.now) (contract_count contracts.now) }
 {
-    let n = contracts.len() / 3;
-    let mut j: usize = 0;
-    while j < n {
+    for j in 0..contracts.len() / 3 {
         if !is_named(contracts, j, areas) {
             return false;
         }
-        j += 1;
     }
     true
 }
 
 // 3: identities.
-fn identities_refusal(distributor: i64, areas: i64, contracts: &[i64]) -> u32
-    requires { Within areas 16 }
-    ensures { result ≡ identities_refusal distributor areas contracts.now }
+#[tactic(auto, unfolding(load::specs::Order::identities_refusal))]
+fn identities_refusal(given: Given) -> Result<(), Refusal>
+    requires { Within given.areas 16 }
+    ensures { let d = given_of given.entry in answer result ≡ identities_refusal d.distributor d.areas d.contracts }
 {
-    if !ints::is_between(distributor, 0, 63) {
-        return 3;
+    if !ints::is_between(given.distributor, 0, 63) || !all_named(given.contracts, given.areas) {
+        return Err(Refusal::Identity);
     }
-    if !all_named(contracts, areas) {
-        return 3;
-    }
-    0
+    Ok(())
 }
 
 // Whether an area's parts total a million.
@@ -173,59 +133,34 @@ fn all_total_million(areas: usize, n: usize, area_parts: &[i64]) -> bool
     requires { Areas areas n area_parts.now }
     ensures { result ≡ all_to (λ a. eqb (total (parts_of n area_parts.now a)) 1000000) areas }
 {
-    let mut a: usize = 0;
-    while a < areas {
+    for a in 0..areas {
         if !totals_million(load::parts_of(n, a, area_parts)) {
             return false;
         }
-        a += 1;
     }
     true
 }
 
-// 5: the areas' totals, for n buses.
-fn areas_refusal(n: usize, areas: i64, area_parts: &[i64]) -> u32
-    requires { Areas (area_count areas) n area_parts.now }
-    ensures { result ≡ areas_refusal n areas area_parts.now }
+// 5: the areas' totals.
+#[tactic(auto, unfolding(load::specs::Order::areas_refusal))]
+fn areas_refusal(given: Given) -> Result<(), Refusal>
+    requires { Areas (area_count given.areas) (length given.loads.now) given.area_parts.now }
+    ensures { let d = given_of given.entry in answer result ≡ areas_refusal (length d.loads) d.areas d.area_parts }
 {
-    if !all_total_million(ints::size(areas) as usize, n, area_parts) {
-        return 5;
+    let areas = ints::size(given.areas) as usize;
+    if !all_total_million(areas, given.loads.len(), given.area_parts) {
+        return Err(Refusal::AreaTotal);
     }
-    0
+    Ok(())
 }
 
-// 1 to 5: what is given.
-pub fn lists_refusal(
-    metered: i64,
-    distributor: i64,
-    loads: &[i64],
-    imports: &[i64],
-    generation: &[i64],
-    areas: i64,
-    area_parts: &[i64],
-    contracts: &[i64],
-    tranches: &[i64],
-    n: usize,
-) -> u32
-    ensures { result ≡ lists_refusal (load_given metered distributor loads.now imports.now generation.now areas area_parts.now contracts.now tranches.now) n }
+// 1 to 5: what is given. n is the length of the list lent for the result.
+pub fn lists_refusal(given: Given, n: usize) -> Result<(), Refusal>
+    ensures { answer result ≡ lists_refusal (given_of given.entry) n }
 {
-    let counted = counts_refusal(loads, imports, generation, areas, contracts);
-    if counted != 0 {
-        return counted;
-    }
-    let measured = lengths_refusal(loads, areas, area_parts, contracts, tranches, n);
-    if measured != 0 {
-        return measured;
-    }
-    let ranged = ranges_refusal(
-        metered, loads, imports, generation, area_parts, contracts, tranches,
-    );
-    if ranged != 0 {
-        return ranged;
-    }
-    let named = identities_refusal(distributor, areas, contracts);
-    if named != 0 {
-        return named;
-    }
-    areas_refusal(loads.len(), areas, area_parts)
+    counts_refusal(given)?;
+    lengths_refusal(given, n)?;
+    ranges_refusal(given)?;
+    identities_refusal(given)?;
+    areas_refusal(given)
 }

@@ -1,29 +1,26 @@
 // A list of numbers in a slice of bytes: eight bytes each, two's complement, lowest byte first.
 #![tactic(auto)]
 
-ghost use Rattle.std.specs.Prelude.{◌≡◌, ◌+◌, ◌*◌, ◌≤◌, ◌<◌, length};
+ghost use Rattle.std.specs.Prelude.{◌≡◌, ◌+◌, ◌*◌, ◌≤◌, ◌<◌, length, take, drop};
 ghost use Rattle.ints.specs.Twos.{twos, bits_of};
-ghost use Rattle.numbers.specs.Bytes.{bytes_of, number_at, numbers, encoded};
-ghost use Rattle.numbers.specs.Inside.{listed};
-ghost use Rattle.numbers.specs.Inside.{four_from, word_from, with_number};
+ghost use Rattle.numbers.specs.Bytes.{bytes_of, lowest_first, number_at, numbers, encoded};
+ghost use Rattle.numbers.specs.Inside.{listed, with_number};
 
-// The four bytes from k on, the lowest first.
-fn four_from(s: &[u8], k: usize) -> u64
-    requires { k + 4 ≤ length s.now }
-    ensures { result ≡ four_from s.now k × (result < 4294967296) }
-{
-    ints::wide(s[k])
-        + 256 * ints::wide(s[k + 1])
-        + 65536 * ints::wide(s[k + 2])
-        + 16777216 * ints::wide(s[k + 3])
-}
-
-// The eight bytes from k on, the lowest first.
+// The word of the eight bytes from k on.
 fn word_from(s: &[u8], k: usize) -> u64
     requires { k + 8 ≤ length s.now }
-    ensures { result ≡ word_from s.now k }
+    ensures { result ≡ lowest_first (take 8 (drop k s.now)) }
 {
-    four_from(s, k) + 4294967296 * four_from(s, k + 4)
+    u64::from_le_bytes([
+        s[k],
+        s[k + 1],
+        s[k + 2],
+        s[k + 3],
+        s[k + 4],
+        s[k + 5],
+        s[k + 6],
+        s[k + 7],
+    ])
 }
 
 // A slice of eight bytes becomes those of u.
@@ -31,36 +28,21 @@ fn put_word(out: &mut [u8], u: u64)
     requires { length out.old ≡ 8 }
     ensures { out.new ≡ bytes_of 8 u }
 {
-    out[0] = (u % 256) as u8;
-    out[1] = (u / 256 % 256) as u8;
-    out[2] = (u / 65536 % 256) as u8;
-    out[3] = (u / 16777216 % 256) as u8;
-    out[4] = (u / 4294967296 % 256) as u8;
-    out[5] = (u / 1099511627776 % 256) as u8;
-    out[6] = (u / 281474976710656 % 256) as u8;
-    out[7] = (u / 72057594037927936 % 256) as u8;
+    out.copy_from_slice(&u.to_le_bytes());
 }
 
-// The number of 64 bits. `!x` is -x - 1.
+// The number of 64 bits.
 pub fn from_word(u: u64) -> i64
     ensures { result ≡ twos 64 u }
 {
-    if u < 9223372036854775808 {
-        u as i64
-    } else {
-        !((18446744073709551615 - u) as i64)
-    }
+    u.cast_signed()
 }
 
 // The 64 bits of a number.
 fn to_word(z: i64) -> u64
     ensures { result ≡ bits_of 64 z }
 {
-    if z < 0 {
-        18446744073709551615 - (!z as u64)
-    } else {
-        z as u64
-    }
+    z.cast_unsigned()
 }
 
 // The number at i of a list.
@@ -94,10 +76,8 @@ pub fn read_all(s: &[u8], list: &mut [i64])
     requires { length s.now ≡ 8 * length list.old }
     ensures { list.new ≡ numbers s.now }
 {
-    let mut i: usize = 0;
-    while i < list.len() {
-        list[i] = number_at(s, i);
-        i += 1;
+    for (i, number) in list.iter_mut().enumerate() {
+        *number = number_at(s, i);
     }
 }
 
@@ -106,10 +86,8 @@ pub fn write_all(list: &[i64], out: &mut [u8])
     requires { length out.old ≡ 8 * length list.now }
     ensures { out.new ≡ encoded list.now }
 {
-    let mut i: usize = 0;
-    while i < list.len() {
-        put_number(out, i, list[i]);
-        i += 1;
+    for (i, number) in list.iter().enumerate() {
+        put_number(out, i, *number);
     }
 }
 

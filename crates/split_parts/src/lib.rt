@@ -8,25 +8,14 @@ ghost use Rattle.split.specs.Split.{share, total, cut_down, remainder, units_lef
 ghost use Rattle.split.specs.Inside.{Shares};
 ghost use Rattle.split_parts.specs.Inside.{SizeGiven, Keyed};
 
-// Party i's share.
-fn share_at(shares: &[i64], i: usize) -> u64
-    requires shares { Shares shares.now }
-    requires i_in_bounds { i < length shares.now }
-    ensures { result ≡ share shares.now i }
-{
-    shares[i] as u64
-}
-
 // The total of the shares.
 pub fn total_of(shares: &[i64]) -> u64
     requires { Shares shares.now }
     ensures { result ≡ total shares.now }
 {
     let mut sum: u64 = 0;
-    let mut i: usize = 0;
-    while i < shares.len() {
-        sum += share_at(shares, i);
-        i += 1;
+    for share in shares {
+        sum += *share as u64;
     }
     sum
 }
@@ -67,13 +56,11 @@ fn divide(size: u64, total: u64, parts: &mut [i64], keys: &mut [u64]) -> u64
 {
     let ratio = size * 17179869184 / total;
     let mut left = size;
-    let mut i: usize = 0;
-    while i < parts.len() {
-        let cut = cut_down(size, parts[i] as u64, total, ratio);
-        parts[i] = cut.whole as i64;
+    for (i, part) in parts.iter_mut().enumerate() {
+        let cut = cut_down(size, *part as u64, total, ratio);
+        *part = cut.whole as i64;
         keys[i] = 64 * cut.rest + (64 - i as u64);
         left -= cut.whole;
-        i += 1;
     }
     left
 }
@@ -98,6 +85,6 @@ pub fn fill(neg: bool, size: u64, shares: &[i64], total: u64, parts: &mut [i64])
     requires parts_len { length parts.old ≡ length shares.now }
     ensures { parts.new ≡ tab (λ i. signed neg (part size shares.now i)) (length shares.now) }
 {
-    ints::copy(shares, parts);
+    parts.copy_from_slice(shares);
     fill_in_place(neg, size, total, parts);
 }

@@ -33,10 +33,8 @@ fn keys_above(keys: &[u64; 64], n: usize, floor: u64) -> u64
     ensures { result ≡ keys_above keys.now n floor }
 {
     let mut count: u64 = 0;
-    let mut j: usize = 0;
-    while j < n {
-        count += is_above(keys[j], floor);
-        j += 1;
+    for key in &keys[..n] {
+        count += is_above(*key, floor);
     }
     count
 }
@@ -48,7 +46,7 @@ pub struct Level {
     pub count: u64,
 }
 
-// A floor with the keys above it counted.
+// A floor with the keys above it counted. All 64 places are lent with n beside them, since `nearest` reads the zeros behind the last key.
 fn level_at(keys: &[u64; 64], n: usize, floor: u64) -> Level
     requires { Keys keys.now n × (floor < 17592186044416) }
     ensures { Counted keys.now n result }
@@ -61,18 +59,11 @@ fn level_at(keys: &[u64; 64], n: usize, floor: u64) -> Level
 
 // ---- The floor moved to the next key.
 
-// The smaller of two numbers.
-fn smaller(a: u64, b: u64) -> u64
-    ensures { result ≡ min a b }
-{
-    if b < a { b } else { a }
-}
-
 // The smallest of four.
 fn smallest(a: u64, b: u64, c: u64, d: u64) -> u64
     ensures { result ≡ min (min a b) (min c d) }
 {
-    smaller(smaller(a, b), smaller(c, d))
+    a.min(b).min(c.min(d))
 }
 
 // How far a key lies above the floor, or below it where the floor goes down.
@@ -91,10 +82,10 @@ fn closer(least: u64, up: bool, floor: u64, key: u64) -> u64
     requires { floor < 17592186044416 }
     ensures { result ≡ min least (Inside·distance up floor key) }
 {
-    smaller(least, distance(up, floor, key))
+    least.min(distance(up, floor, key))
 }
 
-// The least distance of a key. Four at a time, so that none waits for the one before it; behind the last key are zeros, which are never the nearest.
+// The least distance of a key. Four at a time, so that none waits for the one before it; it reads up to three behind the last key, zeros, which are never the nearest.
 fn nearest(keys: &[u64; 64], n: usize, up: bool, floor: u64) -> u64
     requires { (n ≤ 64) × (floor < 17592186044416) }
     ensures { result ≡ least (λ i. Inside·distance up floor (slice_index keys.now i)) (by_fours n) }
@@ -243,10 +234,8 @@ fn put_parts(neg: bool, keys: &[u64; 64], floor: u64, parts: &mut [i64])
     requires { Shares parts.old × Keys keys.now (length parts.old) × (floor < 17592186044416) }
     ensures { parts.new ≡ tab (λ i. signed neg (share parts.old i + one (nat_lt floor (slice_index keys.now i)))) (length parts.old) }
 {
-    let mut i: usize = 0;
-    while i < parts.len() {
-        parts[i] = with_unit(neg, parts[i], is_above(keys[i], floor));
-        i += 1;
+    for (i, part) in parts.iter_mut().enumerate() {
+        *part = with_unit(neg, *part, is_above(keys[i], floor));
     }
 }
 

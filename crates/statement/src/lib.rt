@@ -8,6 +8,15 @@ ghost use Rattle.statement.specs.Statement.{joined, amount_field, amount_fields,
 
 use units::Cents;
 
+// What each participant of an hour is billed, in cents: a list each of congestion charges, loss charges, credits and nets.
+#[derive(Clone, Copy)]
+pub struct Bills<'a> {
+    pub congestion: &'a [i64],
+    pub loss: &'a [i64],
+    pub credit: &'a [i64],
+    pub net: &'a [i64],
+}
+
 // An amount, after a space.
 fn put_amount(page: &mut [u8], at: usize, amount: Cents) -> usize
     requires { at + 21 ≤ length page.old }
@@ -39,90 +48,61 @@ fn put_amounts(
 }
 
 // The line of a participant.
-fn put_line(
-    page: &mut [u8],
-    at: usize,
-    p: usize,
-    congestion: &[i64],
-    loss: &[i64],
-    credit: &[i64],
-    net: &[i64],
-) -> usize
+fn put_line(page: &mut [u8], at: usize, p: usize, bills: Bills) -> usize
     requires p_bound { (p < 64) × (at + 105 ≤ length page.old) }
-    requires p_in_bounds { (p < length congestion.now) × (p < length loss.now) × (p < length credit.now) × (p < length net.now) }
-    ensures written { Written page.old at (line congestion.now loss.now credit.now net.now p) page.new result }
+    requires p_in_bounds { (p < length bills.congestion.now) × (p < length bills.loss.now) × (p < length bills.credit.now) × (p < length bills.net.now) }
+    ensures written { Written page.old at (line bills.entry.congestion.now bills.entry.loss.now bills.entry.credit.now bills.entry.net.now p) page.new result }
     ensures upper_bound { result ≤ at + 105 }
 {
     let start = text::put_decimal(page, at, p as i64);
     put_amounts(
         page,
         start,
-        Cents(congestion[p]),
-        Cents(loss[p]),
-        Cents(credit[p]),
-        Cents(net[p]),
+        Cents(bills.congestion[p]),
+        Cents(bills.loss[p]),
+        Cents(bills.credit[p]),
+        Cents(bills.net[p]),
     )
 }
 
 // The lines of all participants.
-fn put_lines(
-    page: &mut [u8],
-    congestion: &[i64],
-    loss: &[i64],
-    credit: &[i64],
-    net: &[i64],
-) -> usize
-    requires { Printable (length page.old) congestion.now loss.now credit.now net.now }
-    ensures written { Written page.old 0 (joined (line congestion.now loss.now credit.now net.now) (length congestion.now)) page.new result }
-    ensures upper_bound { result ≤ 105 * length congestion.now }
+fn put_lines(page: &mut [u8], bills: Bills) -> usize
+    requires { Printable (length page.old) bills.congestion.now bills.loss.now bills.credit.now bills.net.now }
+    ensures written { Written page.old 0 (joined (line bills.entry.congestion.now bills.entry.loss.now bills.entry.credit.now bills.entry.net.now) (length bills.entry.congestion.now)) page.new result }
+    ensures upper_bound { result ≤ 105 * length bills.entry.congestion.now }
 {
     let mut at: usize = 0;
-    let mut p: usize = 0;
-    while p < congestion.len() {
-        at = put_line(page, at, p, congestion, loss, credit, net);
-        p += 1;
+    for p in 0..bills.congestion.len() {
+        at = put_line(page, at, p, bills);
     }
     at
 }
 
 // The last line, of the sums.
-fn put_last(
-    page: &mut [u8],
-    at: usize,
-    congestion: &[i64],
-    loss: &[i64],
-    credit: &[i64],
-    net: &[i64],
-) -> usize
-    requires { (at + 90 ≤ length page.old) × Printable (length page.old) congestion.now loss.now credit.now net.now }
-    ensures written { Written page.old at (last_line congestion.now loss.now credit.now net.now) page.new result }
+fn put_last(page: &mut [u8], at: usize, bills: Bills) -> usize
+    requires { (at + 90 ≤ length page.old) × Printable (length page.old) bills.congestion.now bills.loss.now bills.credit.now bills.net.now }
+    ensures written { Written page.old at (last_line bills.entry.congestion.now bills.entry.loss.now bills.entry.credit.now bills.entry.net.now) page.new result }
     ensures upper_bound { result ≤ at + 90 }
 {
     let start = text::put_bytes(page, at, b"total");
     put_amounts(
         page,
         start,
-        Cents(ints::sum(congestion)),
-        Cents(ints::sum(loss)),
-        Cents(ints::sum(credit)),
-        Cents(ints::sum(net)),
+        Cents(ints::sum(bills.congestion)),
+        Cents(ints::sum(bills.loss)),
+        Cents(ints::sum(bills.credit)),
+        Cents(ints::sum(bills.net)),
     )
 }
 
 // The lines of all participants, and the last one.
-pub fn put_settled(
-    page: &mut [u8],
-    congestion: &[i64],
-    loss: &[i64],
-    credit: &[i64],
-    net: &[i64],
-) -> usize
-    requires { Printable (length page.old) congestion.now loss.now credit.now net.now }
-    ensures written { Written page.old 0 (lines (length congestion.now) congestion.now loss.now credit.now net.now) page.new result }
+pub fn put_settled(page: &mut [u8], bills: Bills) -> usize
+    requires { Printable (length page.old) bills.congestion.now bills.loss.now bills.credit.now bills.net.now }
+    ensures written { Written page.old 0 (lines (length bills.entry.congestion.now) bills.entry.congestion.now bills.entry.loss.now bills.entry.credit.now bills.entry.net.now) page.new result }
     ensures upper_bound { result ≤ 6825 }
 {
-    let at = put_lines(page, congestion, loss, credit, net);
-    put_last(page, at, congestion, loss, credit, net)
+    let at = put_lines(page, bills);
+    put_last(page, at, bills)
 }
 
 // A refusal.

@@ -8,6 +8,7 @@ ghost use Rattle.exercise.specs.File.{hour_of};
 ghost use Rattle.hour_settle.specs.Inside.{Cleared, Outputs};
 ghost use Rattle.statement.specs.Statement.{statement_of};
 
+use statement::Bills;
 use std::io::{self, Read, Write};
 
 // The statement of a file that passes the order to its length, settled into lists as long as the participants.
@@ -25,11 +26,18 @@ fn put_hour(
     ensures written { Written page.old 0 (statement_of file.now) page.new result }
     ensures upper_bound { result ≤ 6825 }
 {
-    let answer = hour_settle::settle(file, congestion, loss, credit, net);
-    if answer != 0 {
-        return statement::put_refused(page, answer);
+    if let Err(refusal) = hour_settle::settle(file, congestion, loss, credit, net) {
+        return statement::put_refused(page, u32::from(refusal));
     }
-    statement::put_settled(page, congestion, loss, credit, net)
+    statement::put_settled(
+        page,
+        Bills {
+            congestion,
+            loss,
+            credit,
+            net,
+        },
+    )
 }
 
 // The statement of a file, at the start of a page; the answer is its length. 64 participants and their sums have 65 lines
@@ -38,9 +46,8 @@ pub fn put_statement(file: &[u8], page: &mut [u8; 6825]) -> usize
     ensures value { result ≡ length (statement_of file.now) }
     ensures page_after { page.new ≡ statement_of file.now ++ drop (length (statement_of file.now)) page.old }
 {
-    let refusal = exercise_file::frame_refusal(file);
-    if refusal != 0 {
-        return statement::put_refused(page, refusal);
+    if let Err(refusal) = exercise_file::frame_refusal(file) {
+        return statement::put_refused(page, u32::from(refusal));
     }
     let mut congestion = [0i64; 64];
     let mut loss = [0i64; 64];

@@ -1,4 +1,5 @@
 // Numbers and bytes, written into a text from a place on. Each function answers where what it wrote ends.
+// std's `write!` needs a writer that can fail; here the room is proved, and what is written is said to the byte.
 #![tactic(auto)]
 
 ghost use Rattle.std.specs.Prelude.{◌+◌, ◌≤◌, ◌<◌, ◌∷◌, [], length};
@@ -20,10 +21,8 @@ pub fn put_bytes(text: &mut [u8], at: usize, bytes: &[u8]) -> usize
     ensures { Written text.old at bytes.now text.new result }
 {
     let mut end = at;
-    let mut i: usize = 0;
-    while i < bytes.len() {
-        end = put_byte(text, end, bytes[i]);
-        i += 1;
+    for byte in bytes {
+        end = put_byte(text, end, *byte);
     }
     end
 }

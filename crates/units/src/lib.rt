@@ -31,14 +31,14 @@ pub struct Cents(pub i64);
 pub fn withdrawn(kw: Kw) -> NetKw
     ensures { result.0 ≡ pos kw.0 }
 {
-    NetKw(kw.0 as i64)
+    NetKw(i64::from(kw.0))
 }
 
 // What is injected.
 pub fn injected(kw: Kw) -> NetKw
     ensures { result.0 ≡ neg_ℤ (pos kw.0) }
 {
-    NetKw(ints::with_sign(true, kw.0 as u64))
+    NetKw(ints::with_sign(true, u64::from(kw.0)))
 }
 
 // The charge of kW at a price, for one interval, or at a weight. A weight is at most that of a path: 24 prices at each of its two ends.

@@ -30,13 +30,12 @@ use Rattle.load.specs.Load.{LoadGiven, assignment}
 use Rattle.load.specs.Order.{load_refusal}
 use Rattle.load.proofs.Kilowatts.{assignment-within}
 use Rattle.load.proofs.Theorems.{demand-3}
-use Rattle.hour.specs.Cause.{cause_numbers}
+use Rattle.hour.specs.Cause.{Cause, cause_numbers}
 use Rattle.hour.specs.Charges as hour
 use Rattle.hour.specs.Hour.{Hour, all_prices, congestion_prices, loss_prices, position_of, positions, with_transaction}
 use Rattle.hour.specs.InsideTested.{Sound}
 use Rattle.hour.specs.Order.{outputs_refusal, surplus_refusal, transaction_refusal}
 use Rattle.hour.specs.Surplus as surplus
-use Rattle.hour.specs.declared.Cause.{Cause}
 use Rattle.hour.specs.declared.Edition.TheVariants as Edition
 use Rattle.hour.specs.declared.Transaction.{Transaction}
 use Rattle.hour.proofs.Each.{congestion-at, loss-at, net-at}

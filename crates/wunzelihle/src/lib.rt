@@ -1,9 +1,10 @@
-// What the C server calls: each answers its refusal, or 0. Lists cross in bytes, eight a number; the work is done in the crates below.
+// What the C server calls: each but `wz_version` and `wz_participants` answers the number of its refusal, or 0. 1 is written out where a length is refused here. Lists cross in bytes, eight a number; the work is done in the crates below.
 #![tactic(auto)]
 
 ghost use Rattle.std.specs.Prelude.{◌≡◌, [], ◌∷◌, ◌*◌, length};
 ghost use Rattle.ints.specs.Refusal.{lent};
 ghost use Rattle.numbers.specs.Bytes.{numbers, encoded};
+ghost use Rattle.refusals.specs.Number.{answer};
 ghost use Rattle.split.specs.Split.{split_refusal, parts as Split·parts};
 ghost use Rattle.exercise.specs.Cause.{hour_cause, given_cause, cause_refusal, cause_outcome};
 ghost use Rattle.exercise.specs.File.{hour_of};
@@ -15,19 +16,25 @@ ghost use Rattle.wunzelihle.specs.Version.{version};
 ghost use Rattle.wunzelihle.specs.Split.{split_bytes_refusal, split_bytes_outcome};
 ghost use Rattle.wunzelihle.specs.Load.{load_bytes_refusal, load_bytes_outcome};
 
+use exercise::{Counts, HourLists};
+use load_bytes::GivenBytes;
+use refusals::Refusal;
+
 // Shares read into a list, split there, and the parts written from it.
-fn split_listed(amount: i64, shares: &[u8], list: &mut [i64], parts: &mut [u8]) -> u32
+fn split_listed(
+    amount: i64,
+    shares: &[u8],
+    list: &mut [i64],
+    parts: &mut [u8],
+) -> Result<(), Refusal>
     requires { (length shares.now ≡ 8 * length list.old) × (length parts.old ≡ 8 * length list.old) }
-    ensures value { result ≡ split_refusal amount (numbers shares.now) (length list.old) }
-    ensures parts_after { parts.new ≡ lent result (encoded (Split·parts amount (numbers shares.now))) parts.old }
+    ensures value { answer result ≡ split_refusal amount (numbers shares.now) (length list.old) }
+    ensures parts_after { parts.new ≡ lent (answer result) (encoded (Split·parts amount (numbers shares.now))) parts.old }
 {
     numbers::read_all(shares, list);
-    let refused = split_amount::split_in_place(amount, list);
-    if refused != 0 {
-        return refused;
-    }
+    split_amount::split_in_place(amount, list)?;
     numbers::write_all(list, parts);
-    0
+    Ok(())
 }
 
 #[unsafe(no_mangle)]
@@ -49,7 +56,7 @@ pub extern "C" fn wz_split(amount: i64, shares: &[u8], parts: &mut [u8]) -> u32
         return 1;
     }
     let mut list = [0i64; 64];
-    split_listed(amount, shares, &mut list[..n], parts)
+    refusals::answer(split_listed(amount, shares, &mut list[..n], parts))
 }
 
 #[unsafe(no_mangle)]
@@ -89,7 +96,7 @@ pub extern "C" fn wz_assign_load(
     if !numbers::is_list(out.len(), 4096) {
         return 1;
     }
-    load_bytes::assign_listed(
+    let given = GivenBytes {
         metered,
         distributor,
         loads,
@@ -99,8 +106,8 @@ pub extern "C" fn wz_assign_load(
         area_parts,
         contracts,
         tranches,
-        out,
-    )
+    };
+    refusals::answer(load_bytes::assign_listed(given, out))
 }
 
 #[unsafe(no_mangle)]
@@ -117,7 +124,7 @@ pub extern "C" fn wz_settle_hour(
     ensures credit_after { credit.new ≡ lent result (encoded (credits (hour_of file.now))) credit.old }
     ensures net_after { net.new ≡ lent result (encoded (nets (hour_of file.now))) net.old }
 {
-    hour_bytes::settle_bytes(file, congestion, loss, credit, net)
+    refusals::answer(hour_bytes::settle_bytes(file, congestion, loss, credit, net))
 }
 
 #[unsafe(no_mangle)]
@@ -135,17 +142,19 @@ pub extern "C" fn wz_write_file(
     ensures value { result ≡ write_refusal (content participants locations rows transactions edition prices.now row_list.now transaction_list.now) (length file.old) }
     ensures file_after { file.new ≡ write_outcome (content participants locations rows transactions edition prices.now row_list.now transaction_list.now) file.old }
 {
-    exercise_write::write_file(
+    let counts = Counts {
         participants,
         locations,
         rows,
         transactions,
         edition,
+    };
+    let lists = HourLists {
         prices,
-        row_list,
-        transaction_list,
-        file,
-    )
+        rows: row_list,
+        transactions: transaction_list,
+    };
+    refusals::answer(exercise_write::write_file(counts, lists, file))
 }
 
 #[unsafe(no_mangle)]
@@ -160,7 +169,7 @@ pub extern "C" fn wz_read_file(
     ensures row_list_after { row_list.new ≡ lent result (rows_listed (hour_of file.now)) row_list.old }
     ensures transaction_list_after { transaction_list.new ≡ lent result (transactions_listed (hour_of file.now)) transaction_list.old }
 {
-    exercise_read::read_file(file, prices, row_list, transaction_list)
+    refusals::answer(exercise_read::read_file(file, prices, row_list, transaction_list))
 }
 
 #[unsafe(no_mangle)]
@@ -182,7 +191,7 @@ pub extern "C" fn wz_counts(file: &[u8], counts: &mut [u8]) -> u32
     ensures value { result ≡ file_counts_refusal file.now (length counts.old) }
     ensures counts_after { counts.new ≡ file_counts_outcome file.now counts.old }
 {
-    exercise_read::read_counts(file, counts)
+    refusals::answer(exercise_read::read_counts(file, counts))
 }
 
 #[unsafe(no_mangle)]
@@ -215,18 +224,18 @@ pub extern "C" fn wz_find_list_cause(
     if cause.len() != 56 {
         return 1;
     }
-    hour_cause::put_cause(
-        exercise_list_cause::list_cause(
-            participants,
-            locations,
-            rows,
-            transactions,
-            edition,
-            prices,
-            row_list,
-            transaction_list,
-        ),
-        cause,
-    );
+    let counts = Counts {
+        participants,
+        locations,
+        rows,
+        transactions,
+        edition,
+    };
+    let lists = HourLists {
+        prices,
+        rows: row_list,
+        transactions: transaction_list,
+    };
+    hour_cause::put_cause(exercise_list_cause::list_cause(counts, lists), cause);
     0
 }

@@ -15,7 +15,7 @@ use Rattle.exercise_read.proofs.put_all.Goals.{After-item_length-each, In-loop-i
 abbrev size : After-item_length-each → ℕ
 size t = 8 * t.item_length-each.result
 
-sized : (t : After-item_length-each) → let a = t.args in size t ≡ 8 * item_length a.transactions a.edition
+sized : (t : After-item_length-each) → let a = t.args in size t ≡ 8 * item_length a.item
 sized t = ap (λ (k : ℕ). 8 * k) t.item_length-each.ensures.0
 
 all-long : (t : After-item_length-each) → let a = t.args in length a.list.now ≡ size t * a.n
@@ -23,15 +23,15 @@ all-long t = omega (arith, t.requires.list_len, ap (λ (k : ℕ). k * t.args.n) 
 
 -- those of one more are there
 room : (c : In-loop-i) → size (goal.at.In-loop-i c).After-item_length-each * c.loop-i.i + size (goal.at.In-loop-i c).After-item_length-each ≤ length c.loop-i.list
-room c = omega (arith, all-long (goal.at.In-loop-i c).After-item_length-each, c.loop-i.invariant.1, in-turn (size (goal.at.In-loop-i c).After-item_length-each) c.loop-i.i c.args.n c.loop-i-test.true)
+room c = omega (arith, all-long (goal.at.In-loop-i c).After-item_length-each, c.loop-i.invariant.0, in-turn (size (goal.at.In-loop-i c).After-item_length-each) c.loop-i.i c.args.n (search rules))
 
 pub loop-i-init : goal.loop-i-init
 loop-i-init c = let a = c.args in
-    (search rules, search rules, fill_none a.transactions a.edition (size c) (sized c) a.stretch.now a.list.now)
+    (search rules, fill_none a.item (size c) (sized c) a.stretch.now a.list.now)
 
 pub loop-i-preserved : goal.loop-i-preserved
 loop-i-preserved c = let a = c.args in
     let xs = c.loop-i.list in
     let k = size (goal.at.loop-i-preserved c).After-item_length-each * c.loop-i.i in
     let m = room (goal.at.loop-i-preserved c).In-loop-i in
-    (search rules, omega arith, ap (λ (u : List ℕ). take k xs ++ (c.put_at.new.list ++ u)) (Post-is k (k + size (goal.at.loop-i-preserved c).After-item_length-each) xs (omega arith)) ∙ ap (λ (u : List ℕ). take k xs ++ (u ++ drop (k + size (goal.at.loop-i-preserved c).After-item_length-each) xs)) c.put_at.ensures ∙ fill-next a.transactions a.edition (size (goal.at.loop-i-preserved c).After-item_length-each) (sized (goal.at.loop-i-preserved c).After-item_length-each) a.stretch.now a.list.now c.loop-i.i xs c.loop-i.invariant.2)
+    (omega arith, ap (λ (u : List ℕ). take k xs ++ (c.put_at.new.list ++ u)) (Post-is k (k + size (goal.at.loop-i-preserved c).After-item_length-each) xs (omega arith)) ∙ ap (λ (u : List ℕ). take k xs ++ (u ++ drop (k + size (goal.at.loop-i-preserved c).After-item_length-each) xs)) c.put_at.ensures ∙ fill-next a.item (size (goal.at.loop-i-preserved c).After-item_length-each) (sized (goal.at.loop-i-preserved c).After-item_length-each) a.stretch.now a.list.now c.loop-i.i xs c.loop-i.invariant.1)

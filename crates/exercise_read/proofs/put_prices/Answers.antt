@@ -17,7 +17,7 @@ use Rattle.exercise_read.proofs.put_prices.Goals as goal
 
 pub loop-j-init : goal.loop-j-init
 loop-j-init c = let a = c.args in
-    (search rules, search rules, fill_none (tab (price_at a.stretch.now) a.n) a.list.now)
+    (search rules, fill_none (tab (price_at a.stretch.now) a.n) a.list.now)
 
 pub loop-j-preserved : goal.loop-j-preserved
 loop-j-preserved c = let a = c.args in
@@ -25,9 +25,9 @@ loop-j-preserved c = let a = c.args in
     let all = tab (price_at a.stretch.now) a.n in
     let long : length all ≡ a.n = length-tab (price_at a.stretch.now) a.n in
     let here = to_z-of_z {w = w64} (sfits_of c.struct_told-1.given.0.1) ∙ c.price_at.ensures ∙ sym (get_or-tab (price_at a.stretch.now) (pos 0) a.n j (search rules)) in
-    (search rules, omega arith, c.put_number.ensures ∙ ap (λ (o : List ℕ). with_number o j (to_z w64 (of_z w64 c.price_at.result.0))) c.loop-j.invariant.2 ∙ fill-next all a.list.now j _ (omega arith) (omega arith) here)
+    (omega arith, c.put_number.ensures ∙ ap (λ (o : List ℕ). with_number o j (to_z w64 (of_z w64 c.price_at.result.0))) c.loop-j.invariant.1 ∙ fill-next all a.list.now j _ (omega arith) (omega arith) here)
 
 pub returns : goal.returns
 returns c = let a = c.args in
     let long : length (tab (price_at a.stretch.now) a.n) ≡ a.n = length-tab (price_at a.stretch.now) a.n in
-    c.loop-j.invariant.2 ∙ fill_done (tab (price_at a.stretch.now) a.n) a.list.now c.loop-j.j (omega arith) (omega arith)
+    c.loop-j.invariant.1 ∙ fill_done (tab (price_at a.stretch.now) a.n) a.list.now c.loop-j.j (omega arith) (omega arith)

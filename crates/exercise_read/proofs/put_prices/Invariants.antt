@@ -1,6 +1,6 @@
 use mathlib.Core.Path.{◌≡◌}
 use mathlib.Core.List.{◌++◌}
-use Prim.Native.Nat.{◌*◌, ◌-◌, ◌≤◌}
+use Prim.Native.Nat.{◌*◌}
 use lib.ListN.{length, take, drop}
 use Rattle.ints.specs.Table.{tab}
 use Rattle.numbers.specs.Bytes.{encoded}
@@ -8,7 +8,4 @@ use Rattle.exercise.specs.File.{price_at}
 use Rattle.exercise_read.proofs.put_prices.Given as goal
 
 abbrev pub invariant-loop-j : goal.invariant-loop-j
-invariant-loop-j l = (l.j ≤ l.n) × (length l.list ≡ length l.initial.list) × (l.list ≡ encoded (take l.j (tab (price_at l.stretch) l.n)) ++ drop (8 * l.j) l.initial.list)
-
-abbrev pub decreases-loop-j : goal.decreases-loop-j
-decreases-loop-j l = l.n - l.j
+invariant-loop-j l = (length l.list ≡ length l.initial.list) × (l.list ≡ encoded (take l.j (tab (price_at l.stretch) l.n)) ++ drop (8 * l.j) l.initial.list)

@@ -1,5 +1,4 @@
 use mathlib.Core.Path.{◌≡◌}
-use Prim.Native.Nat.{◌-◌, ◌≤◌}
 use lib.ListN.{length}
 use lib.Seq.{sets}
 use Rattle.ints.specs.Table.{tab}
@@ -8,7 +7,4 @@ use Rattle.exercise.specs.Written.{run, price_bits}
 use Rattle.exercise_write.proofs.put_prices.Given as goal
 
 abbrev pub invariant-loop-j : goal.invariant-loop-j
-invariant-loop-j l = (l.j ≤ l.n) × (length l.out ≡ length l.initial.out) × (l.out ≡ sets l.initial.out 5 (run 3 price_bits (tab (number_at l.prices) l.j)))
-
-abbrev pub decreases-loop-j : goal.decreases-loop-j
-decreases-loop-j l = l.n - l.j
+invariant-loop-j l = (length l.out ≡ length l.initial.out) × (l.out ≡ sets l.initial.out 5 (run 3 price_bits (tab (number_at l.prices) l.j)))

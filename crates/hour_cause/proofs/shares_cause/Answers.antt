@@ -1,27 +1,19 @@
-use mathlib.Core.Path.{◌≡◌, ap, sym, ◌∙◌}
-use lib.ListN.{length}
-use mir.Facts.{to_z-of_z}
-use mir.Syntax.{w64}
-use borrow.Author.Rules.{sfits_of, rules}
+use Rattle.std.proofs.Common.{sym, ◌∙◌, length, rules}
+use Rattle.std.proofs.lemmas.Result.{err_from_is_err_and}
 use Rattle.ints.specs.Table.{◌at◌}
 use Rattle.hour.specs.Cause.{share_cause}
-use Rattle.hour.specs.declared.Cause.{Cause}
-use Rattle.hour.proofs.Causes.{cause-list, left-next, left-first, left-none}
+use Rattle.hour.proofs.Causes.{cause-list}
+use Rattle.hour.proofs.Told.{left_passed, left_stopped, left_done}
 use Rattle.hour_cause.proofs.shares_cause.Goals as goal
-use Rattle.hour_cause.proofs.shares_cause.Goals.{After-tested-cause}
 
--- the cause of one share
-own : (c : After-tested-cause) → let l = c in c.tested-cause.result ≡ share_cause l.loop-p.p (c.args.shares.now at l.loop-p.p)
-own c = c.tested-cause.ensures ∙ ap (share_cause c.loop-p.p) (to_z-of_z {w = w64} (sfits_of c.tested-arg-1.given))
-
-pub returns-then-cause-ne0 : goal.returns-then-cause-ne0
-returns-then-cause-ne0 c = let xs = c.args.shares.now in
-    own (goal.at.returns-then-cause-ne0 c).After-tested-cause ∙ left-first (λ k. share_cause k (xs at k)) (length xs) c.loop-p.p c.loop-p-test.true c.loop-p.invariant.1 (λ z. c.if-cause-ne0.true (ap (λ (x : Cause). x.refusal) (own (goal.at.returns-then-cause-ne0 c).After-tested-cause) ∙ z)) ∙ sym (cause-list share_cause xs)
+pub returns-in_err-tested : goal.returns-in_err-tested
+returns-in_err-tested c = let xs = c.args.shares.now in
+    let p = err_from_is_err_and c.from_residual.result c.from_residual.ensures.1 in
+    rw (p.1, p.2) (left_stopped (λ k. share_cause k (xs at k)) (length xs) c.loop-p.p c.loop-p-test.true c.loop-p.invariant _ (search rules) ∙ sym (cause-list share_cause xs))
 
 pub loop-p-preserved : goal.loop-p-preserved
 loop-p-preserved c = let xs = c.args.shares.now in
-    (search rules, left-next (λ k. share_cause k (xs at k)) (length xs) c.loop-p.p c.loop-p-test.true c.loop-p.invariant.1 (ap (λ (x : Cause). x.refusal) (sym (own (goal.at.loop-p-preserved c).After-tested-cause)) ∙ c.if-cause-ne0.false))
+    left_passed (λ k. share_cause k (xs at k)) (length xs) c.loop-p.p c.loop-p-test.true c.loop-p.invariant (search rules)
 
 pub returns : goal.returns
-returns c = let xs = c.args.shares.now in
-    c.none.ensures ∙ left-none (λ k. share_cause k (xs at k)) (length xs) c.loop-p.p (search rules) c.loop-p.invariant.1 ∙ sym (cause-list share_cause xs)
+returns c = let xs = c.args.shares.now in left_done (λ k. share_cause k (xs at k)) (length xs) c.loop-p.p c.loop-p-test.false c.loop-p.invariant ∙ sym (cause-list share_cause xs)

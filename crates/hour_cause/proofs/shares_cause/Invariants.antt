@@ -1,4 +1,3 @@
-use Prim.Native.Nat.{◌-◌, ◌≤◌}
 use lib.ListN.{length}
 use Rattle.ints.specs.Table.{◌at◌}
 use Rattle.hour.specs.Cause.{share_cause}
@@ -6,7 +5,4 @@ use Rattle.hour.proofs.Causes.{Left}
 use Rattle.hour_cause.proofs.shares_cause.Given as goal
 
 abbrev pub invariant-loop-p : goal.invariant-loop-p
-invariant-loop-p l = (l.p ≤ length l.shares) × Left (λ k. share_cause k (l.shares at k)) (length l.shares) l.p
-
-abbrev pub decreases-loop-p : goal.decreases-loop-p
-decreases-loop-p l = length l.shares - l.p
+invariant-loop-p l = Left (λ k. share_cause k (l.shares at k)) (length l.shares) l.p

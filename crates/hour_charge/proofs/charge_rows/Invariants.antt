@@ -1,7 +1,5 @@
-use mathlib.Core.Path.{◌≡◌}
-use mathlib.Core.List.{List}
-use Prim.Native.Nat.{ℕ, ◌-◌, ◌≤◌}
-use lib.IntN.{ℤ}
+use Rattle.std.proofs.Common.{◌≡◌, ℕ, List}
+use Rattle.std.specs.Prelude.{ℤ}
 use Rattle.ints.proofs.Adding.{Adding}
 use Rattle.ints.specs.InsideEvery.{to_owner}
 use Rattle.exercise.specs.File.{row_at}
@@ -18,7 +16,9 @@ abbrev pub Charging : List ℕ → ℕ → List ℤ → List ℤ → ℕ → Lis
 Charging rows locations table before i totals = Adding (to_owner (λ r. r.participant) (part_in table locations)) (row_at rows) 0 2400000000000000 before i totals
 
 abbrev pub invariant-loop-i : goal.invariant-loop-i
-invariant-loop-i l = (l.i ≤ l.n) × (rows_in_refusal l.participants l.locations l.rows l.i ≡ 0) × Charging l.rows l.locations l.congestion l.initial.exact_congestion l.i l.exact_congestion × Charging l.rows l.locations l.loss l.initial.exact_loss l.i l.exact_loss × Sharing l.rows l.initial.shares l.i l.shares
-
-abbrev pub decreases-loop-i : goal.decreases-loop-i
-decreases-loop-i l = l.n - l.i
+invariant-loop-i l = record {
+  passed : rows_in_refusal l.participants l.locations l.rows l.i ≡ 0;
+  congestion : Charging l.rows l.locations l.congestion l.initial.exact_congestion l.i l.exact_congestion;
+  loss : Charging l.rows l.locations l.loss l.initial.exact_loss l.i l.exact_loss;
+  shares : Sharing l.rows l.initial.shares l.i l.shares;
+}

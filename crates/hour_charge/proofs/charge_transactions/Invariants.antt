@@ -1,7 +1,5 @@
-use mathlib.Core.Path.{◌≡◌}
-use mathlib.Core.List.{List}
-use Prim.Native.Nat.{ℕ, ◌-◌, ◌≤◌}
-use lib.IntN.{ℤ}
+use Rattle.std.proofs.Common.{◌≡◌, ℕ, List}
+use Rattle.std.specs.Prelude.{ℤ}
 use Rattle.ints.proofs.Adding.{Adding}
 use Rattle.exercise.specs.File.{transaction_at}
 use Rattle.hour.specs.declared.Edition.{Edition}
@@ -15,7 +13,8 @@ abbrev pub Charging : Edition → List ℕ → ℕ → List ℤ → List ℤ →
 Charging edition transactions locations table before i totals = Adding (adds_to edition (weight_in table locations)) (transaction_at edition transactions) rows_most 4800000000000000 before i totals
 
 abbrev pub invariant-loop-i : goal.invariant-loop-i
-invariant-loop-i l = (l.i ≤ l.n) × (transactions_in_refusal l.edition l.participants l.locations l.transactions l.i ≡ 0) × Charging l.edition l.transactions l.locations l.congestion l.initial.exact_congestion l.i l.exact_congestion × Charging l.edition l.transactions l.locations l.loss l.initial.exact_loss l.i l.exact_loss
-
-abbrev pub decreases-loop-i : goal.decreases-loop-i
-decreases-loop-i l = l.n - l.i
+invariant-loop-i l = record {
+  passed : transactions_in_refusal l.edition l.participants l.locations l.transactions l.i ≡ 0;
+  congestion : Charging l.edition l.transactions l.locations l.congestion l.initial.exact_congestion l.i l.exact_congestion;
+  loss : Charging l.edition l.transactions l.locations l.loss l.initial.exact_loss l.i l.exact_loss;
+}

@@ -1,6 +1,7 @@
 use mathlib.Core.Path.{◌≡◌, ap₂, ◌∙◌}
 use native.Mathlib.Omega.{arith}
 use Rattle.ints.proofs.Refusals.{lent-result}
+use Rattle.refusals.specs.Number.{answer}
 use Rattle.hour.specs.Cause.{surplus_cause}
 use Rattle.hour.proofs.Billed.{loss-charges, the-shares, the-surplus}
 use Rattle.exercise.specs.File.{hour_of}
@@ -14,7 +15,7 @@ rounded_cause-requires c = let e = c.requires.empty in let k = c.charge_hour.aut
 pub returns : goal.returns
 returns c = let e = c.requires.empty in
     let hour = hour_of c.args.file.now in
-    let none : c.charge_hour.result ≡ 0 = c.charge_hour.ensures.value ∙ c.requires.file_value_2 in
+    let none : answer c.charge_hour.result ≡ 0 = c.charge_hour.ensures.value ∙ c.requires.file_value_2 in
     c.rounded_cause.ensures
     ∙ ap₂ surplus_cause
     (the-surplus hour _ (loss-charges hour e.1.each (c.charge_hour.ensures.exact_loss_after ∙ lent-result _ _ _ none)))

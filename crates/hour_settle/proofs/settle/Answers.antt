@@ -1,5 +1,6 @@
 use mathlib.Core.Path.{◌≡◌, refl, sym, ap, ◌∙◌}
-use Rattle.ints.proofs.Refusals.{lent-before}
+use Rattle.std.proofs.lemmas.Result.{err_from_is_err_and}
+use Rattle.refusals.proofs.Numbers.{number-not-zero}
 use Rattle.exercise.specs.Order.{frame_refusal, in_numbers}
 use Rattle.exercise.specs.declared.Header.{Header}
 use Rattle.exercise.proofs.Whole.{whole}
@@ -14,7 +15,7 @@ module _ (h : After-read_header-n) where
   start = (goal.at.After-read_header-n h).Start
 
   passes : frame_refusal start.args.file.now ≡ 0
-  passes = sym h.frame_refusal-refusal.ensures ∙ h.if-refusal-ne0.false
+  passes = sym h.in_ok-frame_refusal.ensures
 
   count : h.read_header-n.result.participants ≡ (hour_of start.args.file.now).participants
   count = ap (λ (x : Header). x.participants) h.read_header-n.ensures
@@ -31,17 +32,12 @@ module _ (a : Else-net-n) where
     net-each = a.if-net-n.false ∙ count head;
   }
 
-pub returns-then-refusal-ne0 : goal.returns-then-refusal-ne0
-returns-then-refusal-ne0 c = let t = c.if-refusal-ne0.true in record {
-  value = ends-early in_numbers _ _ _ _ _ _ t c.frame_refusal-refusal.ensures;
-  congestion_after = lent-before _ _ _ t;
-  loss_after = lent-before _ _ _ t;
-  credit_after = lent-before _ _ _ t;
-  net_after = lent-before _ _ _ t;
-}
+pub returns-in_err-frame_refusal-clause-value : goal.returns-in_err-frame_refusal-clause-value
+returns-in_err-frame_refusal-clause-value c = let p = err_from_is_err_and c.from_residual.result c.from_residual.ensures.1 in
+    rw (p.1, p.2) (ends-early in_numbers _ _ _ _ _ _ (number-not-zero _) c.in_err-frame_refusal.ensures)
 
 pub read_header-n-requires : goal.read_header-n-requires
-read_header-n-requires c = (whole _ (sym c.frame_refusal-refusal.ensures ∙ c.if-refusal-ne0.false)).begun
+read_header-n-requires c = (whole _ (sym c.in_ok-frame_refusal.ensures)).begun
 
 pub returns-then-congestion-n : goal.returns-then-congestion-n
 returns-then-congestion-n c = record {

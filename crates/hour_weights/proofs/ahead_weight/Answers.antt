@@ -9,7 +9,6 @@ use lib.ListN.{length}
 use mir.Syntax.{w64}
 use mir.Val.{SFits, to_z, of_z}
 use mir.Facts.{to_z-of_z}
-use borrow.Author.Rules.{rules}
 use Rattle.ints.specs.InsideRange.{Within}
 use Rattle.ints.specs.Table.{◌at◌}
 use Rattle.ints.proofs.Sizes.{w-up, w_fits, w-read}
@@ -74,7 +73,7 @@ module _ (c : After-struct_told-in-loop-k-1) where
       ∙ stands read ∙ real-at given.args.locations given.args.list.now head.loop-k.k given.args.l given.requires.there
 
   less : to_z w64 head.loop-k.weight-bits -ℤ to_z w64 (of_z w64 c.mills_at-weight.result.0) ≡ sofar (prices given) (head.loop-k.k + 1) given.args.l
-  less = ap₂ ◌-ℤ◌ head.loop-k.invariant.1 taken ∙ sofar-next (prices given) given.args.l head.loop-k.k
+  less = ap₂ ◌-ℤ◌ head.loop-k.invariant taken ∙ sofar-next (prices given) given.args.l head.loop-k.k
 
   later : head.loop-k.k + 1 ≤ 12
   later = omega (arith, in-hour read)
@@ -84,7 +83,7 @@ module _ (c : After-struct_told-in-loop-k-1) where
 
 pub loop-k-init : goal.loop-k-init
 loop-k-init c = let value = c.whole_hour-weight.ensures ∙ ap whole_hour (c.mills_at.ensures ∙ ahead-at c.args.locations c.args.list.now c.args.l c.requires.there) ∙ sofar-none (prices (goal.at.loop-k-init c).Start) c.args.l in
-    (search rules, ap (λ (z : ℤ). to_z w64 (of_z w64 z)) value ∙ w-read (sofar-range c.requires 0 (omega arith)) tt)
+    ap (λ (z : ℤ). to_z w64 (of_z w64 z)) value ∙ w-read (sofar-range c.requires 0 (omega arith)) tt
 
 pub mills_at-weight-requires : goal.mills_at-weight-requires
 mills_at-weight-requires c = (omega (arith, long c, (asked c).requires.there), small c)
@@ -93,8 +92,8 @@ pub overflow_sub-weight : goal.overflow_sub-weight
 overflow_sub-weight c = rw (less c) (fits c)
 
 pub loop-k-preserved : goal.loop-k-preserved
-loop-k-preserved c = (later c, ap (λ (z : ℤ). to_z w64 (of_z w64 z)) (less c) ∙ to_z-of_z (fits c))
+loop-k-preserved c = ap (λ (z : ℤ). to_z w64 (of_z w64 z)) (less c) ∙ to_z-of_z (fits c)
 
 pub returns : goal.returns
 returns c = let e : c.loop-k.k ≡ 12 = omega arith in
-    c.loop-k.invariant.1 ∙ ap (λ (k : ℕ). sofar (prices (goal.at.returns c).Start) k c.args.l) e ∙ sofar-all (prices (goal.at.returns c).Start) c.args.l
+    c.loop-k.invariant ∙ ap (λ (k : ℕ). sofar (prices (goal.at.returns c).Start) k c.args.l) e ∙ sofar-all (prices (goal.at.returns c).Start) c.args.l

@@ -1,13 +1,9 @@
 use mathlib.Core.Path.{◌≡◌}
 use mathlib.Core.Bool.{◌&&◌}
-use Prim.Native.Nat.{◌-◌, ◌≤◌}
-use lib.ListN.{length, drop}
+use lib.ListN.{drop}
 use Rattle.ints.specs.Number.{between}
 use Rattle.ints.specs.Table.{all}
 use Rattle.ints.proofs.all_between.Given as goal
 
-abbrev pub invariant-loop-i : goal.invariant-loop-i
-invariant-loop-i l = (l.i ≤ length l.list) × (all (between l.low l.high) l.list ≡ (l.passed && all (between l.low l.high) (drop l.i l.list)))
-
-abbrev pub decreases-loop-i : goal.decreases-loop-i
-decreases-loop-i l = length l.list - l.i
+abbrev pub invariant-loop-x : goal.invariant-loop-x
+invariant-loop-x l = all (between l.low l.high) l.list ≡ (l.passed && all (between l.low l.high) (drop l.x-index l.list))

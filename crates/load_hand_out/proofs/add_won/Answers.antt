@@ -1,4 +1,3 @@
-use mir.Val.{to_z, of_z}
 use Rattle.load.proofs.Tables.{spread_none, spread-next, spread-within}
 use Rattle.ints.specs.Table.{◌at◌}
 use Rattle.ints.specs.InsideRange.{Within}
@@ -6,31 +5,30 @@ use mir.Facts.{to_z-of_z}
 use mir.Syntax.{w64}
 use lib.IntN.{ℤ}
 use lib.ListN.{length}
-use mathlib.Core.Path.{◌≡◌, sym, subst}
-use borrow.Author.Rules.{rules, sfits_of}
+use mathlib.Core.Path.{sym, subst}
+use borrow.Author.Rules.{rules}
 use Rattle.load.specs.InsideTable.{Spread}
 use native.Mathlib.Omega.{arith}
 use Prim.Native.Nat.{◌+◌, ◌<◌}
 use Rattle.load_hand_out.proofs.add_won.Goals as goal
 use Rattle.load_hand_out.proofs.add_won.Invariants.{place}
-use Rattle.load_hand_out.proofs.add_won.Goals.{After-add_at-arg-in-loop-j-1, In-loop-j}
+use Rattle.load_hand_out.proofs.add_won.Goals.{In-loop-j}
 
 -- it is there
 there : (c : In-loop-j) → let a = c.args in place a.winners.now a.n a.bus c.loop-j.j < length c.loop-j.table
-there c = omega (arith, c.requires.within c.loop-j.j c.loop-j-test.true, c.loop-j.invariant.1.same)
-
--- the part that is added
-part : (c : After-add_at-arg-in-loop-j-1) → to_z w64 (of_z w64 (c.args.parts.now at c.loop-j.j)) ≡ c.args.parts.now at c.loop-j.j
-part c = to_z-of_z {w = w64} (sfits_of c.add_at-arg-in-loop-j-1.given)
+there c = omega (arith, c.requires.within c.loop-j.j c.loop-j-test.true, c.loop-j.invariant.same)
 
 pub loop-j-init : goal.loop-j-init
-loop-j-init c = (search rules, spread_none)
+loop-j-init c = spread_none
 
 pub add_at-requires : goal.add_at-requires
-add_at-requires c = (there (goal.at.add_at-requires c).In-loop-j, spread-within c.requires c.loop-j.invariant.1 c.loop-j-test.true, subst (λ (z : ℤ). Within z 1000000000000) (sym (part c)) (c.requires.small.each c.loop-j.j c.loop-j-test.true))
+add_at-requires c = (
+  there (goal.at.add_at-requires c).In-loop-j,
+  spread-within c.requires c.loop-j.invariant c.loop-j-test.true,
+  subst (λ (z : ℤ). Within z 1000000000000) (sym (to_z-of_z {w = w64} {z = c.args.parts.now at c.loop-j.j} (search rules))) (c.requires.small.each c.loop-j.j c.loop-j-test.true),
+)
 
 pub loop-j-preserved : goal.loop-j-preserved
-loop-j-preserved c = (
-  search rules,
-  subst (Spread c.args.table.now (place c.args.winners.now c.args.n c.args.bus) c.args.parts.now (c.loop-j.j + 1)) (sym c.add_at.ensures) (spread-next _ c.loop-j.invariant.1 (there (goal.at.loop-j-preserved c).In-loop-j) (part (goal.at.loop-j-preserved c).After-add_at-arg-in-loop-j-1)),
-)
+loop-j-preserved c =
+    subst (Spread c.args.table.now (place c.args.winners.now c.args.n c.args.bus) c.args.parts.now (c.loop-j.j + 1)) (sym c.add_at.ensures)
+    (spread-next _ c.loop-j.invariant (there (goal.at.loop-j-preserved c).In-loop-j) (to_z-of_z {w = w64} {z = c.args.parts.now at c.loop-j.j} (search rules)))

@@ -1,7 +1,7 @@
-use lib.ListN.{length, get_or}
+use lib.ListN.{get_or}
 use mathlib.Core.List.{List}
 use Rattle.load.specs.InsideTable.{Spread}
-use Prim.Native.Nat.{ℕ, ◌+◌, ◌*◌, ◌-◌, ◌≤◌}
+use Prim.Native.Nat.{ℕ, ◌+◌, ◌*◌}
 use Rattle.load_hand_out.proofs.add_won.Given as goal
 
 -- where part j is added
@@ -9,7 +9,4 @@ abbrev pub place : List ℕ → ℕ → ℕ → ℕ → ℕ
 place winners n bus j = get_or winners j 0 * n + bus
 
 abbrev pub invariant-loop-j : goal.invariant-loop-j
-invariant-loop-j l = (l.j ≤ length l.winners) × Spread l.initial.table (place l.winners l.n l.bus) l.parts l.j l.table
-
-abbrev pub decreases-loop-j : goal.decreases-loop-j
-decreases-loop-j l = length l.winners - l.j
+invariant-loop-j l = Spread l.initial.table (place l.winners l.n l.bus) l.parts l.j l.table

@@ -1,9 +1,8 @@
-use Rattle.load.proofs.Splits.{not-below, portion-of}
+use Rattle.load.proofs.Splits.{not-below}
 use Rattle.split_parts.proofs.Parts.{amount-made}
 use Rattle.split_amount.proofs.Given.{size-given}
 use mir.Facts.{to_z-of_z}
-use lib.Seq.{length-take-le}
-use lib.ListN.{length, drop}
+use lib.ListN.{length}
 use lib.IntN.{nat_abs}
 use mathlib.Core.Path.{◌≡◌, sym, ap, ◌∙◌}
 use Rattle.load_hand_out.proofs.portion.Goals as goal
@@ -15,10 +14,8 @@ size_is c = c.size.ensures ∙ ap nat_abs (to_z-of_z c.ranges.amount)
 pub fill-requires : goal.fill-requires
 fill-requires c = record {
   size_given = size-given c.args.amount c.args.shares.now (length c.args.shares.now) c.args.total c.size.result c.requires.splittable.0.accepted c.requires.splittable.1 (size_is (goal.at.fill-requires c).After-size);
-  parts_len = length-take-le _ c.args.made.now c.requires.shares_in_bounds;
+  parts_len = c.requires.made_len;
 }
 
 pub returns : goal.returns
-returns c = let shares = c.args.shares.now in
-    portion-of c.args.amount shares c.fill.new.parts (drop (length shares) c.args.made.now)
-    (c.fill.ensures ∙ amount-made c.args.amount shares _ _ (sym (not-below c.requires.splittable.0)) (size_is (goal.at.returns c).After-size))
+returns c = c.fill.ensures ∙ amount-made c.args.amount c.args.shares.now _ _ (sym (not-below c.requires.splittable.0)) (size_is (goal.at.returns c).After-size)

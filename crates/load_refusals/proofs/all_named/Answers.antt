@@ -22,10 +22,10 @@ tested : (c : After-is_named) → test (goal.at.After-is_named c).Start c.loop-j
 tested c = sym c.is_named.ensures
 
 pub loop-j-init : goal.loop-j-init
-loop-j-init c = (search rules, all_to-none (test c))
+loop-j-init c = all_to-none (test (goal.at.loop-j-init c).Start)
 
 pub returns-then-not-is_named : goal.returns-then-not-is_named
 returns-then-not-is_named c = sym (whole (goal.at.returns-then-not-is_named c).Start ∙ all_to-fails (test (goal.at.returns-then-not-is_named c).Start) (contract_count c.args.contracts.now) c.loop-j.j (search rules) (tested (goal.at.returns-then-not-is_named c).After-is_named ∙ c.if-not-is_named.true))
 
 pub loop-j-preserved : goal.loop-j-preserved
-loop-j-preserved c = (search rules, all_to-next (test (goal.at.loop-j-preserved c).Start) c.loop-j.j c.loop-j.invariant.1 (tested (goal.at.loop-j-preserved c).After-is_named ∙ c.if-not-is_named.false))
+loop-j-preserved c = all_to-next (test (goal.at.loop-j-preserved c).Start) c.loop-j.j c.loop-j.invariant (tested (goal.at.loop-j-preserved c).After-is_named ∙ c.if-not-is_named.false)

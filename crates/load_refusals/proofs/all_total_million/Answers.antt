@@ -18,10 +18,10 @@ tested : (c : After-totals_million) → test (goal.at.After-totals_million c).St
 tested c = sym (c.totals_million.ensures ∙ ap (λ (list : List ℤ). eqb (total list) 1000000) c.parts_of.ensures.parts)
 
 pub loop-a-init : goal.loop-a-init
-loop-a-init c = (search rules, all_to-none (test c))
+loop-a-init c = all_to-none (test (goal.at.loop-a-init c).Start)
 
 pub returns-then-not-totals_million : goal.returns-then-not-totals_million
 returns-then-not-totals_million c = sym (all_to-fails (test (goal.at.returns-then-not-totals_million c).Start) c.args.areas c.loop-a.a (search rules) (tested (goal.at.returns-then-not-totals_million c).After-totals_million ∙ c.if-not-totals_million.true))
 
 pub loop-a-preserved : goal.loop-a-preserved
-loop-a-preserved c = (search rules, all_to-next (test (goal.at.loop-a-preserved c).Start) c.loop-a.a c.loop-a.invariant.1 (tested (goal.at.loop-a-preserved c).After-totals_million ∙ c.if-not-totals_million.false))
+loop-a-preserved c = all_to-next (test (goal.at.loop-a-preserved c).Start) c.loop-a.a c.loop-a.invariant (tested (goal.at.loop-a-preserved c).After-totals_million ∙ c.if-not-totals_million.false)

@@ -1,6 +1,6 @@
-use mathlib.Core.Path.{◌∙◌, sym}
-use Rattle.numbers.proofs.Words.{stores, bytes-are}
+use Rattle.std.proofs.Common.{◌∙◌}
+use Rattle.numbers.proofs.Words.{le-bytes}
 use Rattle.numbers.proofs.put_word.Goals as goal
 
 pub returns : goal.returns
-returns c = stores c.args.out.now _ _ _ _ _ _ _ _ c.requires ∙ sym (bytes-are c.args.u)
+returns c = c.copy_from_slice.ensures.after ∙ c.to_le_bytes.ensures ∙ le-bytes c.args.u

@@ -40,7 +40,7 @@ module _ (c : After-cut_down-arg-1) where
   start = (goal.at.After-cut_down-arg-1 c).Start
 
   read_is : to_z w64 (of_z w64 (turn.loop-i.parts at turn.loop-i.i)) ≡ pos (share (shares start) turn.loop-i.i)
-  read_is = to_z-of_z {w = w64} (sfits_of c.cut_down-arg-1.given) ∙ (turn.loop-i.invariant.2.rest turn.loop-i.i (omega arith) ∙ start.requires.0.tested.natural turn.loop-i.i)
+  read_is = to_z-of_z {w = w64} (sfits_of c.cut_down-arg-1.given) ∙ (turn.loop-i.invariant.1.rest turn.loop-i.i (omega arith) ∙ start.requires.0.tested.natural turn.loop-i.i)
 
   share-is : nat_abs (to_z w64 (of_z w64 (turn.loop-i.parts at turn.loop-i.i))) ≡ share (shares start) turn.loop-i.i
   share-is = ap nat_abs read_is
@@ -68,7 +68,7 @@ module _ (c : After-cut_down-cut) where
   rest-small = omega (arith, rest-is, small s.args.size (shares s) (not-zero s) l.loop-i.i, total-most (shares s) s.requires.0.tested)
 
 pub loop-i-init : goal.loop-i-init
-loop-i-init c = (search rules, omega (arith, sum_nat-zero (cut (goal.at.loop-i-init c).Start)), place-start (pos 0) _ (shares (goal.at.loop-i-init c).Start), place-start 0 (key (goal.at.loop-i-init c).Start) c.args.keys.now)
+loop-i-init c = (omega (arith, sum_nat-zero (cut (goal.at.loop-i-init c).Start)), place-start (pos 0) _ (shares (goal.at.loop-i-init c).Start), place-start 0 (key (goal.at.loop-i-init c).Start) c.args.keys.now)
 
 pub cut_down-cut-requires : goal.cut_down-cut-requires
 cut_down-cut-requires c = let s = start c in
@@ -84,20 +84,19 @@ pub overflow_add-keys : goal.overflow_add-keys
 overflow_add-keys c = record { fits = omega (arith, rest-small (goal.at.overflow_add-keys c).After-cut_down-cut) }
 
 pub overflow_sub-left : goal.overflow_sub-left
-overflow_sub-left c = omega (arith, (l (goal.at.overflow_sub-left c).After-cut_down-cut).loop-i.invariant.1, cut-is (goal.at.overflow_sub-left c).After-cut_down-cut, sum_nat-next (cut (s (goal.at.overflow_sub-left c).After-cut_down-cut)) (l (goal.at.overflow_sub-left c).After-cut_down-cut).loop-i.i, cut-front (s (goal.at.overflow_sub-left c).After-cut_down-cut).args.size (shares (s (goal.at.overflow_sub-left c).After-cut_down-cut)) (not-zero (s (goal.at.overflow_sub-left c).After-cut_down-cut)) ((l (goal.at.overflow_sub-left c).After-cut_down-cut).loop-i.i + 1) (search rules))
+overflow_sub-left c = omega (arith, (l (goal.at.overflow_sub-left c).After-cut_down-cut).loop-i.invariant.0, cut-is (goal.at.overflow_sub-left c).After-cut_down-cut, sum_nat-next (cut (s (goal.at.overflow_sub-left c).After-cut_down-cut)) (l (goal.at.overflow_sub-left c).After-cut_down-cut).loop-i.i, cut-front (s (goal.at.overflow_sub-left c).After-cut_down-cut).args.size (shares (s (goal.at.overflow_sub-left c).After-cut_down-cut)) (not-zero (s (goal.at.overflow_sub-left c).After-cut_down-cut)) ((l (goal.at.overflow_sub-left c).After-cut_down-cut).loop-i.i + 1) (search rules))
 
 pub loop-i-preserved : goal.loop-i-preserved
 loop-i-preserved c = let i = (l (goal.at.loop-i-preserved c).After-cut_down-cut).loop-i.i in (
-  search rules,
-  omega (arith, (l (goal.at.loop-i-preserved c).After-cut_down-cut).loop-i.invariant.1, cut-is (goal.at.loop-i-preserved c).After-cut_down-cut, sum_nat-next (cut (s (goal.at.loop-i-preserved c).After-cut_down-cut)) i),
-  place-next (pos 0) _ (shares (s (goal.at.loop-i-preserved c).After-cut_down-cut)) (l (goal.at.loop-i-preserved c).After-cut_down-cut).loop-i.parts _ i _ (l (goal.at.loop-i-preserved c).After-cut_down-cut).loop-i.invariant.2 (search rules) (to_z_pos w64 (omega (arith, whole-small (goal.at.loop-i-preserved c).After-cut_down-cut)) ∙ ap pos (cut-is (goal.at.loop-i-preserved c).After-cut_down-cut)) refl,
-  place-next 0 (key (s (goal.at.loop-i-preserved c).After-cut_down-cut)) (s (goal.at.loop-i-preserved c).After-cut_down-cut).args.keys.now (l (goal.at.loop-i-preserved c).After-cut_down-cut).loop-i.keys _ i _ (l (goal.at.loop-i-preserved c).After-cut_down-cut).loop-i.invariant.3 (omega (arith, (s (goal.at.loop-i-preserved c).After-cut_down-cut).requires.2, (s (goal.at.loop-i-preserved c).After-cut_down-cut).requires.0.tested.few)) (ap (λ (r : ℕ). 64 * r + (64 - i)) (rest-is (goal.at.loop-i-preserved c).After-cut_down-cut)) refl,
+  omega (arith, (l (goal.at.loop-i-preserved c).After-cut_down-cut).loop-i.invariant.0, cut-is (goal.at.loop-i-preserved c).After-cut_down-cut, sum_nat-next (cut (s (goal.at.loop-i-preserved c).After-cut_down-cut)) i),
+  place-next (pos 0) _ (shares (s (goal.at.loop-i-preserved c).After-cut_down-cut)) (l (goal.at.loop-i-preserved c).After-cut_down-cut).loop-i.parts _ i _ (l (goal.at.loop-i-preserved c).After-cut_down-cut).loop-i.invariant.1 (search rules) (to_z_pos w64 (omega (arith, whole-small (goal.at.loop-i-preserved c).After-cut_down-cut)) ∙ ap pos (cut-is (goal.at.loop-i-preserved c).After-cut_down-cut)) refl,
+  place-next 0 (key (s (goal.at.loop-i-preserved c).After-cut_down-cut)) (s (goal.at.loop-i-preserved c).After-cut_down-cut).args.keys.now (l (goal.at.loop-i-preserved c).After-cut_down-cut).loop-i.keys _ i _ (l (goal.at.loop-i-preserved c).After-cut_down-cut).loop-i.invariant.2 (omega (arith, (s (goal.at.loop-i-preserved c).After-cut_down-cut).requires.2, (s (goal.at.loop-i-preserved c).After-cut_down-cut).requires.0.tested.few)) (ap (λ (r : ℕ). 64 * r + (64 - i)) (rest-is (goal.at.loop-i-preserved c).After-cut_down-cut)) refl,
 )
 
 pub returns : goal.returns
 unfolding units_left
 returns c = let n : c.loop-i.i ≡ length (shares (goal.at.returns c).Start) = omega arith in record {
-  value = c.loop-i.invariant.1 ∙ ap (λ (k : ℕ). c.args.size - sum_nat (cut (goal.at.returns c).Start) k) n;
-  parts_after = place-done (pos 0) _ (shares (goal.at.returns c).Start) c.loop-i.parts c.loop-i.i c.loop-i.invariant.2 (omega arith) c.loop-i.invariant.0;
-  keyed = record { made = sym (ap (λ (k : ℕ). take k c.loop-i.keys) n) ∙ c.loop-i.invariant.3.made ∙ ap (tab (key (goal.at.returns c).Start)) n; rest = λ j h. c.loop-i.invariant.3.rest j (omega arith) };
+  value = c.loop-i.invariant.0 ∙ ap (λ (k : ℕ). c.args.size - sum_nat (cut (goal.at.returns c).Start) k) n;
+  parts_after = place-done (pos 0) _ (shares (goal.at.returns c).Start) c.loop-i.parts c.loop-i.i c.loop-i.invariant.1 (omega arith) (omega arith);
+  keyed = record { made = sym (ap (λ (k : ℕ). take k c.loop-i.keys) n) ∙ c.loop-i.invariant.2.made ∙ ap (tab (key (goal.at.returns c).Start)) n; rest = λ j h. c.loop-i.invariant.2.rest j (omega arith) };
 }

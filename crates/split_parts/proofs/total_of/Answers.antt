@@ -1,21 +1,25 @@
-use mathlib.Core.Path.{sym, ap, ap₂, ◌∙◌}
-use Prim.Native.Nat.{◌+◌}
-use native.Mathlib.Omega.{arith}
-use borrow.Author.Rules.{rules}
+use Rattle.std.proofs.Common.{◌≡◌, ℕ, ◌+◌, List, ℤ, nat_abs, sym, ap, ap₂, ◌∙◌, arith, w64, to_z, of_z}
 use Rattle.ints.specs.Sum.{sum_nat}
+use Rattle.ints.specs.Table.{◌at◌}
 use Rattle.ints.proofs.Counts.{sum_nat-zero, sum_nat-next, sum_nat-most}
+use Rattle.ints.proofs.Sizes.{w-read}
+use Rattle.split.specs.Inside.{Shares}
 use Rattle.split.specs.Split.{share, total}
 use Rattle.split_parts.proofs.total_of.Goals as goal
 
-pub loop-i-init : goal.loop-i-init
-loop-i-init c = (search rules, sym (sum_nat-zero (share c.args.shares.now)))
+-- what is read at i is party i's share
+read_is : (shares : List ℤ) → Shares shares → (i : ℕ) → nat_abs (to_z w64 (of_z w64 (shares at i))) ≡ share shares i
+read_is shares s i = ap nat_abs (w-read {x = shares at i} {k = 4000000000} (record { within = s.most i }) tt)
+
+pub loop-share-init : goal.loop-share-init
+loop-share-init c = sym (sum_nat-zero (share c.args.shares.now))
 
 pub overflow_add-sum : goal.overflow_add-sum
-overflow_add-sum c = record { fits = omega (arith, c.share_at-sum.ensures, c.loop-i.invariant.1, sum_nat-most (share c.args.shares.now) 4000000000 c.loop-i.i (λ i _. c.requires.most i), c.requires.most c.loop-i.i) }
+overflow_add-sum c = record { fits = omega (arith, read_is c.args.shares.now c.requires c.loop-share.share-index, c.loop-share.invariant, sum_nat-most (share c.args.shares.now) 4000000000 c.loop-share.share-index (λ i _. c.requires.most i), c.requires.most c.loop-share.share-index) }
 
-pub loop-i-preserved : goal.loop-i-preserved
-loop-i-preserved c = (search rules, ap₂ ◌+◌ c.loop-i.invariant.1 c.share_at-sum.ensures ∙ sym (sum_nat-next (share c.args.shares.now) c.loop-i.i))
+pub loop-share-preserved : goal.loop-share-preserved
+loop-share-preserved c = ap₂ ◌+◌ c.loop-share.invariant (read_is c.args.shares.now c.requires c.loop-share.share-index) ∙ sym (sum_nat-next (share c.args.shares.now) c.loop-share.share-index)
 
 pub returns : goal.returns
 unfolding total
-returns c = c.loop-i.invariant.1 ∙ ap (sum_nat (share c.args.shares.now)) (omega arith)
+returns c = c.loop-share.invariant ∙ ap (sum_nat (share c.args.shares.now)) (omega arith)

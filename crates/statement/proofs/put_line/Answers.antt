@@ -22,9 +22,9 @@ returns c = record {
   written = told (more c.put_decimal-start.ensures.written c.put_amounts.ensures.written)
       (ap₂ (λ (a b : List ℕ). a ++ b) (ap decimal (to_z_pos w64 {n = c.args.p} (omega (arith, c.requires.p_bound.0))))
       (same-amounts
-      (read c.args.congestion.now c.args.p (sfits_of c.put_amounts-arg-2-1.given))
-      (read c.args.loss.now c.args.p (sfits_of c.put_amounts-arg-3-1.given))
-      (read c.args.credit.now c.args.p (sfits_of c.put_amounts-arg-4-1.given))
-      (read c.args.net.now c.args.p (sfits_of c.put_amounts-arg-5-1.given))));
+      (read c.args.bills.congestion.now c.args.p (sfits_of c.put_amounts-arg-2-1.given))
+      (read c.args.bills.loss.now c.args.p (sfits_of c.put_amounts-arg-3-1.given))
+      (read c.args.bills.credit.now c.args.p (sfits_of c.put_amounts-arg-4-1.given))
+      (read c.args.bills.net.now c.args.p (sfits_of c.put_amounts-arg-5-1.given))));
   upper_bound = search rules;
 }

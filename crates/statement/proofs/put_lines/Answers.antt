@@ -6,7 +6,7 @@ use Rattle.statement.proofs.Lines.{joined-none, joined-next}
 use Rattle.statement.proofs.put_lines.Goals as goal
 
 pub loop-p-init : goal.loop-p-init
-loop-p-init c = (search rules, search rules, told (nothing c.args.page.now 0) (joined-none (line c.args.congestion.now c.args.loss.now c.args.credit.now c.args.net.now)))
+loop-p-init c = (search rules, told (nothing c.args.page.now 0) (joined-none (line c.args.bills.congestion.now c.args.bills.loss.now c.args.bills.credit.now c.args.bills.net.now)))
 
 pub loop-p-preserved : goal.loop-p-preserved
-loop-p-preserved c = (search rules, omega (arith, c.put_line-at.ensures.upper_bound, c.loop-p.invariant.1), told (more c.loop-p.invariant.2 c.put_line-at.ensures.written) (joined-next _ c.loop-p.p))
+loop-p-preserved c = (omega (arith, c.put_line-at.ensures.upper_bound, c.loop-p.invariant.0), told (more c.loop-p.invariant.1 c.put_line-at.ensures.written) (joined-next _ c.loop-p.p))

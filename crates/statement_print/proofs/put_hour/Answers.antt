@@ -1,54 +1,57 @@
-use mathlib.Core.Path.{◌≡◌, ◌∙◌}
+use mathlib.Core.Path.{◌≡◌, ap, ◌∙◌}
 use mathlib.Core.List.{List}
 use Prim.Native.Nat.{ℕ, ◌≤◌}
 use borrow.Author.Rules.{rules}
 use Rattle.ints.proofs.Refusals.{lent-result}
+use Rattle.refusals.specs.Number.{answer}
+use Rattle.refusals.proofs.Numbers.{number-not-zero}
 use Rattle.text.proofs.Laws.{told}
 use Rattle.exercise.specs.File.{hour_of}
 use Rattle.hour.specs.Charges.{congestion_charges_of, loss_charges_of}
 use Rattle.hour.specs.Surplus.{credits, nets}
 use Rattle.statement.specs.Inside.{Printable}
+use Rattle.statement.specs.Statement.{refused_line}
 use Rattle.statement_print.proofs.Hours as hours
 use Rattle.statement_print.proofs.put_hour.Goals as goal
-use Rattle.statement_print.proofs.put_hour.Goals.{After-settle-answer, Else-answer-ne0, Start}
+use Rattle.statement_print.proofs.put_hour.Goals.{After-settle, In_default, Start}
 
 -- after the hour was settled and accepted: the lists are those of the definition
-module _ (l : Else-answer-ne0) where
-  abbrev t : After-settle-answer
-  t = (goal.at.Else-answer-ne0 l).After-settle-answer
+module _ (l : In_default) where
+  abbrev t : After-settle
+  t = (goal.at.In_default l).After-settle
 
   abbrev s : Start
-  s = (goal.at.Else-answer-ne0 l).Start
+  s = (goal.at.In_default l).Start
 
   abbrev file : List ℕ
   file = s.args.file.now
 
-  congestion-is : t.settle-answer.new.congestion ≡ congestion_charges_of (hour_of file)
-  congestion-is = t.settle-answer.ensures.congestion_after ∙ lent-result t.settle-answer.result _ _ l.if-answer-ne0.false
+  congestion-is : t.settle.new.congestion ≡ congestion_charges_of (hour_of file)
+  congestion-is = t.settle.ensures.congestion_after ∙ lent-result (answer t.settle.result) _ _ (ap answer l.in_default.is)
 
-  loss-is : t.settle-answer.new.loss ≡ loss_charges_of (hour_of file)
-  loss-is = t.settle-answer.ensures.loss_after ∙ lent-result t.settle-answer.result _ _ l.if-answer-ne0.false
+  loss-is : t.settle.new.loss ≡ loss_charges_of (hour_of file)
+  loss-is = t.settle.ensures.loss_after ∙ lent-result (answer t.settle.result) _ _ (ap answer l.in_default.is)
 
-  credit-is : t.settle-answer.new.credit ≡ credits (hour_of file)
-  credit-is = t.settle-answer.ensures.credit_after ∙ lent-result t.settle-answer.result _ _ l.if-answer-ne0.false
+  credit-is : t.settle.new.credit ≡ credits (hour_of file)
+  credit-is = t.settle.ensures.credit_after ∙ lent-result (answer t.settle.result) _ _ (ap answer l.in_default.is)
 
-  net-is : t.settle-answer.new.net ≡ nets (hour_of file)
-  net-is = t.settle-answer.ensures.net_after ∙ lent-result t.settle-answer.result _ _ l.if-answer-ne0.false
+  net-is : t.settle.new.net ≡ nets (hour_of file)
+  net-is = t.settle.ensures.net_after ∙ lent-result (answer t.settle.result) _ _ (ap answer l.in_default.is)
 
-  lists : {page : ℕ} → 6825 ≤ page → Printable page t.settle-answer.new.congestion t.settle-answer.new.loss t.settle-answer.new.credit t.settle-answer.new.net
-  lists = hours.lists_of file s.requires.file_value.0 s.requires.outputs t.settle-answer.result t.settle-answer.ensures.value l.if-answer-ne0.false congestion-is loss-is credit-is net-is
+  lists : {page : ℕ} → 6825 ≤ page → Printable page t.settle.new.congestion t.settle.new.loss t.settle.new.credit t.settle.new.net
+  lists = hours.lists_of file s.requires.file_value.0 s.requires.outputs (answer t.settle.result) t.settle.ensures.value (ap answer l.in_default.is) congestion-is loss-is credit-is net-is
 
-pub returns-then-answer-ne0 : goal.returns-then-answer-ne0
-returns-then-answer-ne0 c = record {
-  written = told c.put_refused.ensures.written (hours.refused-late c.args.file.now c.requires.file_value.0 c.requires.outputs c.settle-answer.result c.settle-answer.ensures.value c.if-answer-ne0.true);
+pub returns-in-Err : goal.returns-in-Err
+returns-in-Err c = record {
+  written = told c.put_refused.ensures.written (ap refused_line c.from.ensures ∙ hours.refused-late c.args.file.now c.requires.file_value.0 c.requires.outputs _ c.in-Err.ensures.value (number-not-zero _));
   upper_bound = search rules;
 }
 
 pub put_settled-requires : goal.put_settled-requires
-put_settled-requires c = lists (goal.at.put_settled-requires c).Else-answer-ne0 (s (goal.at.put_settled-requires c).Else-answer-ne0).requires.file_value.1
+put_settled-requires c = lists (goal.at.put_settled-requires c).In_default (s (goal.at.put_settled-requires c).In_default).requires.file_value.1
 
 pub returns : goal.returns
 returns c = let w = c.put_settled.ensures in record {
-  written = told w.written (hours.lines_are (file (goal.at.returns c).Else-answer-ne0) (s (goal.at.returns c).Else-answer-ne0).requires.file_value.0 (s (goal.at.returns c).Else-answer-ne0).requires.outputs (t (goal.at.returns c).Else-answer-ne0).settle-answer.result (t (goal.at.returns c).Else-answer-ne0).settle-answer.ensures.value c.if-answer-ne0.false (congestion-is (goal.at.returns c).Else-answer-ne0) (loss-is (goal.at.returns c).Else-answer-ne0) (credit-is (goal.at.returns c).Else-answer-ne0) (net-is (goal.at.returns c).Else-answer-ne0));
+  written = told w.written (hours.lines_are (file (goal.at.returns c).In_default) (s (goal.at.returns c).In_default).requires.file_value.0 (s (goal.at.returns c).In_default).requires.outputs (answer (t (goal.at.returns c).In_default).settle.result) (t (goal.at.returns c).In_default).settle.ensures.value (ap answer c.in_default.is) (congestion-is (goal.at.returns c).In_default) (loss-is (goal.at.returns c).In_default) (credit-is (goal.at.returns c).In_default) (net-is (goal.at.returns c).In_default));
   upper_bound = w.upper_bound;
 }

@@ -8,11 +8,14 @@ use lib.Seq.{length-take-le}
 use borrow.Author.Rules.{rules}
 use Rattle.ints.specs.InsideRange.{InRange}
 use Rattle.ints.proofs.Ranges.{cut_range, zeros-range}
+use Rattle.refusals.specs.Number.{answer}
+use Rattle.refusals.proofs.Numbers.{number-not-zero}
 use Rattle.text.proofs.Laws as laws
 use Rattle.exercise.specs.Order.{frame_refusal}
 use Rattle.exercise.specs.declared.Header.{Header}
 use Rattle.exercise.proofs.Whole.{small, whole}
 use Rattle.exercise.specs.File.{hour_of}
+use Rattle.statement.specs.Statement.{refused_line}
 use Rattle.statement_print.proofs.Hours.{refused-early}
 use Rattle.statement_print.proofs.put_statement.Goals as goal
 use Rattle.statement_print.proofs.put_statement.Goals.{After-read_header-n, Start}
@@ -29,7 +32,7 @@ module _ (h : After-read_header-n) where
   file = s.args.file.now
 
   passes : frame_refusal file ≡ 0
-  passes = sym h.frame_refusal-refusal.ensures ∙ h.if-refusal-ne0.false
+  passes = sym h.frame_refusal.ensures ∙ ap answer h.in_default.is
 
   count : h.read_header-n.result.participants ≡ (hour_of file).participants
   count = ap (λ (x : Header). x.participants) h.read_header-n.ensures
@@ -43,15 +46,15 @@ module _ (h : After-read_header-n) where
   empty : InRange (take h.read_header-n.result.participants (replicate 64 (pos 0))) 0
   empty = cut_range 0 h.read_header-n.result.participants (zeros-range 64 0)
 
-pub returns-then-refusal-ne0 : goal.returns-then-refusal-ne0
-returns-then-refusal-ne0 c = let w = laws.told c.put_refused.ensures.written (refused-early c.args.file.now _ c.if-refusal-ne0.true c.frame_refusal-refusal.ensures) in
+pub returns-in-Err : goal.returns-in-Err
+returns-in-Err c = let w = laws.told c.put_refused.ensures.written (ap refused_line c.from.ensures ∙ refused-early c.args.file.now _ (number-not-zero _) c.in-Err.ensures) in
     let f = laws.front w (omega (arith, w.ends, c.put_refused.ensures.upper_bound, c.well_formed)) in record {
       value = f.1;
       page_after = f.0;
     }
 
 pub read_header-n-requires : goal.read_header-n-requires
-read_header-n-requires c = (whole _ (sym c.frame_refusal-refusal.ensures ∙ c.if-refusal-ne0.false)).begun
+read_header-n-requires c = (whole _ (sym c.frame_refusal.ensures ∙ ap answer c.in_default.is)).begun
 
 pub slice_bounds-congestion-end : goal.slice_bounds-congestion-end
 slice_bounds-congestion-end c = few (goal.at.slice_bounds-congestion-end c).After-read_header-n

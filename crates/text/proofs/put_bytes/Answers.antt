@@ -7,8 +7,6 @@ use borrow.Author.Rules.{rules}
 use Rattle.text.proofs.Laws as laws
 use Rattle.text.proofs.put_bytes.Goals as goal
 
-pub loop-i-preserved : goal.loop-i-preserved
-loop-i-preserved c = let bytes = c.args.bytes.now in (
-  search rules,
-  laws.told (laws.more c.loop-i.invariant.1 c.put_byte-end.ensures) (sym (take-suc bytes c.loop-i.i 0 (search rules)) ∙ ap (λ (k : ℕ). take k bytes) (sym (add-one c.loop-i.i))),
-)
+pub loop-byte-preserved : goal.loop-byte-preserved
+loop-byte-preserved c = let bytes = c.args.bytes.now in
+    laws.told (laws.more c.loop-byte.invariant c.put_byte-end.ensures) (sym (take-suc bytes c.loop-byte.byte-index 0 (search rules)) ∙ ap (λ (k : ℕ). take k bytes) (sym (add-one c.loop-byte.byte-index)))

@@ -4,6 +4,7 @@ use Rattle.load_bytes.specs.Inside.{AllListed}
 use Rattle.load.specs.Order.{load_refusal}
 use Rattle.load.specs.Load.{LoadGiven, assignment}
 use Rattle.numbers.specs.Bytes.{encoded}
+use Rattle.refusals.specs.Number.{answer as told}
 use Rattle.ints.proofs.Refusals.{refused}
 use Rattle.ints.proofs.Bools.{not-both}
 use Rattle.ints.specs.Refusal.{lent}
@@ -56,10 +57,11 @@ module _ (a : After-assign_listed) where
   abbrev s : Start
   s = start (goal.at.After-assign_listed a).Else-not-is_list-7
 
+  -- the numbers are handed on as they are
   read : load_bytes_given (to_z w64 (of_z w64 s.args.metered)) (to_z w64 (of_z w64 s.args.distributor)) s.args.loads.now s.args.imports.now s.args.generation.now (to_z w64 (of_z w64 s.args.areas)) s.args.area_parts.now s.args.contracts.now s.args.tranches.now ≡ d s
   read = simp (to_z-of_z s.ranges.metered, to_z-of_z s.ranges.distributor, to_z-of_z s.ranges.areas)
 
-  answered : a.assign_listed.result ≡ answer s
+  answered : told a.assign_listed.result ≡ answer s
   answered =
       a.assign_listed.ensures.value ∙ ap (λ (g : LoadGiven). load_refusal g (length s.args.out.now / 8)) read
       ∙ sym (all_listed s.args.metered s.args.distributor s.args.loads.now s.args.imports.now s.args.generation.now s.args.areas s.args.area_parts.now s.args.contracts.now s.args.tranches.now (length s.args.out.now) (lists (goal.at.After-assign_listed a).Else-not-is_list-7))
@@ -87,6 +89,6 @@ returns-then-not-is_list-7 c = let made = ragged (goal.at.returns-then-not-is_li
 
 pub returns : goal.returns
 returns c = record {
-  value = answered (goal.at.returns c).After-assign_listed;
+  value = c.answer.ensures ∙ answered (goal.at.returns c).After-assign_listed;
   out_after = c.assign_listed.ensures.out_after ∙ ap₂ (λ (r : ℕ) (g : LoadGiven). lent r (encoded (assignment g)) (s (goal.at.returns c).After-assign_listed).args.out.now) (answered (goal.at.returns c).After-assign_listed) (read (goal.at.returns c).After-assign_listed);
 }

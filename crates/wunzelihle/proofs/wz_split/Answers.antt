@@ -10,6 +10,7 @@ use borrow.Author.Tests.{eq-eqb, ne_eqb}
 use Rattle.ints.specs.Refusal.{lent}
 use Rattle.ints.proofs.Refusals.{refused}
 use Rattle.numbers.specs.Bytes.{numbers, encoded}
+use Rattle.refusals.specs.Number.{answer as told}
 use Rattle.numbers.proofs.Laws.{length-numbers}
 use Rattle.split.specs.Split.{split_refusal, parts}
 use Rattle.split.proofs.Accepted.{too_many, unequal}
@@ -37,7 +38,7 @@ start c = (goal.at.Else-parts-n c).Start
 room : (c : Else-parts-n) → length (take (length (start c).args.shares.now / 8) (replicate 64 (pos 0))) ≡ length (start c).args.shares.now / 8
 room c = length-take-le (length (start c).args.shares.now / 8) (replicate 64 (pos 0)) c.if-n-gt64.false
 
-split-answer : (c : After-split_listed) → let s = start (goal.at.After-split_listed c).Else-parts-n in c.split_listed.result ≡ answer s
+split-answer : (c : After-split_listed) → let s = start (goal.at.After-split_listed c).Else-parts-n in told c.split_listed.result ≡ answer s
 split-answer c = let s = start (goal.at.After-split_listed c).Else-parts-n in
     c.split_listed.ensures.value
     ∙ (ap₂ (λ (z : ℤ) (n : ℕ). split_refusal z (numbers s.args.shares.now) n) (to_z-of_z s.ranges.amount) (room (goal.at.After-split_listed c).Else-parts-n ∙ sym c.if-parts-n.false) ∙ sym (whole (goal.at.After-split_listed c).Else-parts-ne0))
@@ -60,6 +61,6 @@ returns-then-parts-n c = let made = refused (answer (goal.at.returns-then-parts-
 
 pub returns : goal.returns
 returns c = let s = start (goal.at.returns c).Else-parts-n in record {
-  value = split-answer (goal.at.returns c).After-split_listed;
+  value = c.answer.ensures ∙ split-answer (goal.at.returns c).After-split_listed;
   parts_after = c.split_listed.ensures.parts_after ∙ ap₂ (λ (r : ℕ) (z : ℤ). lent r (encoded (parts z (numbers s.args.shares.now))) s.args.parts.now) (split-answer (goal.at.returns c).After-split_listed) (to_z-of_z s.ranges.amount);
 }
