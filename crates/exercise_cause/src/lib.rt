@@ -29,7 +29,7 @@ fn tested(
     requires { (least ≤ most) × (most ≤ 9223372036854775807) }
     ensures { told result ≡ Cause·tested (number refusal) (part_of place) (number_of place) (field_of place) (as_number found) (pos least) (pos most) }
 {
-    hour_cause::tested(
+    hour_cause::in_range(
         refusal,
         place,
         numbers::from_word(found as u64),

@@ -22,7 +22,7 @@ use refusals::Refusal;
 fn count_cause(field: HeaderField, found: i64, least: i64, most: i64) -> Result<(), Cause>
     ensures { told result ≡ tested 1 of_header 0 (header_field field) found least most }
 {
-    hour_cause::tested(Refusal::Length, Place::Header(field), found, least, most)
+    hour_cause::in_range(Refusal::Length, Place::Header(field), found, least, most)
 }
 
 // The edition, and the counts.
@@ -30,7 +30,7 @@ fn count_cause(field: HeaderField, found: i64, least: i64, most: i64) -> Result<
 fn counts_cause(counts: Counts) -> Result<(), Cause>
     ensures { told result ≡ counts_cause counts.participants counts.locations counts.rows counts.transactions counts.edition }
 {
-    hour_cause::tested(
+    hour_cause::in_range(
         Refusal::File,
         Place::Header(HeaderField::Edition),
         counts.edition,
@@ -49,7 +49,7 @@ fn length_cause(list: ListField, bytes: usize, n: usize) -> Result<(), Cause>
     ensures { told result ≡ length_cause (list_field list) bytes n }
 {
     let long = (8 * n) as i64;
-    hour_cause::tested(
+    hour_cause::in_range(
         Refusal::Length,
         Place::List(list),
         numbers::from_word(bytes as u64),

@@ -44,6 +44,16 @@ pub extern "C" fn probe_check(file: &[u8]) -> u32
     refusals::answer(exercise_file::check(file))
 }
 
+// A copy, byte by byte: std's `copy_from_slice` would have the archive ask for a function from outside.
+fn copy_bytes(from: &[u8], to: &mut [u8])
+    requires { length to.old ≡ length from.now }
+    ensures { to.new ≡ from.now }
+{
+    for (i, byte) in to.iter_mut().enumerate() {
+        *byte = from[i];
+    }
+}
+
 // How many bytes the reader's stretch has; `rows` takes a copy where it has that length.
 #[tactic(auto, unfolding(crate::specs::Inside::rows_outcome))]
 #[unsafe(no_mangle)]
@@ -53,7 +63,7 @@ pub extern "C" fn probe_rows(file: &[u8], rows: &mut [u8]) -> u64
 {
     let part = exercise_file::rows_stretch(file);
     if rows.len() == part.len() {
-        rows.copy_from_slice(part);
+        copy_bytes(part, rows);
     }
     part.len() as u64
 }

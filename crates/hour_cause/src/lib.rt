@@ -3,9 +3,10 @@
 
 ghost use Rattle.std.specs.Prelude.{◌≡◌, ◌≤◌, length};
 ghost use Rattle.refusals.specs.Number.{number};
-ghost use Rattle.hour.specs.Cause.{tested as Cause·tested, below as Cause·below, first_cause, kinds_of, intervals_of, price_cause, row_cause, transaction_cause, share_cause, unshared_cause, surplus_cause, cause_numbers};
+ghost use Rattle.hour.specs.Cause.{no_cause, tested as Cause·tested, below as Cause·below, first_cause, kinds_of, intervals_of, price_cause, row_cause, transaction_cause, share_cause, unshared_cause, surplus_cause, cause_numbers};
 ghost use Rattle.hour.specs.Numbers.{as_row, as_transaction};
 ghost use Rattle.hour.specs.InsideTold.{part_of, number_of, field_of, told};
+ghost use Rattle.hour_cause.specs.Inside.{as_cause};
 ghost use Rattle.numbers.specs.Bytes.{encoded};
 ghost use Rattle.split.specs.Inside.{Shares};
 
@@ -14,9 +15,63 @@ use hour::{
 };
 use refusals::Refusal;
 
-// A number that has to be least to most.
+// The numbers of a cause as they are told: any numbers, whether or not they name a refusal and a place.
+#[derive(Clone, Copy)]
+pub struct CauseNumbers {
+    pub refusal: u32,
+    pub part: u32,
+    pub number: u32,
+    pub field: u32,
+    pub found: i64,
+    pub least: i64,
+    pub most: i64,
+}
+
+// Nothing is refused.
+fn no_numbers() -> CauseNumbers
+    ensures { as_cause result ≡ no_cause }
+{
+    CauseNumbers {
+        refusal: 0,
+        part: 0,
+        number: 0,
+        field: 0,
+        found: 0,
+        least: 0,
+        most: 0,
+    }
+}
+
+// A number that has to be least to most, where refusal and place are numbers, too.
 #[tactic(auto, unfolding(hour::specs::Cause::tested))]
 pub fn tested(
+    refusal: u32,
+    part: u32,
+    number: u32,
+    field: u32,
+    found: i64,
+    least: i64,
+    most: i64,
+) -> CauseNumbers
+    ensures { as_cause result ≡ Cause·tested refusal part number field found least most }
+{
+    if ints::is_between(found, least, most) {
+        return no_numbers();
+    }
+    CauseNumbers {
+        refusal,
+        part,
+        number,
+        field,
+        found,
+        least,
+        most,
+    }
+}
+
+// A number that has to be least to most.
+#[tactic(auto, unfolding(hour::specs::Cause::tested))]
+pub fn in_range(
     refusal: Refusal,
     place: Place,
     found: i64,
@@ -42,7 +97,7 @@ fn below(refusal: Refusal, place: Place, found: u64, end: u64) -> Result<(), Cau
     requires { (1 ≤ end) × (end ≤ 9223372036854775808) }
     ensures { told result ≡ Cause·below (number refusal) (part_of place) (number_of place) (field_of place) found end }
 {
-    tested(
+    in_range(
         refusal,
         place,
         numbers::from_word(found),
@@ -72,7 +127,7 @@ fn intervals_of(market: u64) -> u64
 pub fn price_cause(j: u32, price: i64) -> Result<(), Cause>
     ensures { told result ≡ price_cause j price }
 {
-    tested(
+    in_range(
         Refusal::Range,
         Place::Price(j),
         price,
@@ -191,7 +246,7 @@ fn shares_cause(shares: &[i64]) -> Result<(), Cause>
     ensures { told result ≡ first_cause share_cause 0 shares.now }
 {
     for (p, share) in shares.iter().enumerate() {
-        tested(
+        in_range(
             Refusal::Surplus,
             Place::Share(p as u32),
             *share,
@@ -211,7 +266,7 @@ fn unshared_cause(surplus: i64, shares: &[i64]) -> Result<(), Cause>
     if 0 < split_parts::total_of(shares) {
         return Ok(());
     }
-    tested(Refusal::NoShares, Place::Surplus, surplus, 0, 0)
+    in_range(Refusal::NoShares, Place::Surplus, surplus, 0, 0)
 }
 
 // The surplus, then the shares, then whether there is any.
@@ -220,7 +275,7 @@ pub fn surplus_cause(surplus: i64, shares: &[i64]) -> Result<(), Cause>
     requires { length shares.now ≤ 64 }
     ensures { told result ≡ surplus_cause surplus shares.now }
 {
-    tested(
+    in_range(
         Refusal::Surplus,
         Place::Surplus,
         surplus,
@@ -268,22 +323,37 @@ fn field_of(place: Place) -> u32
     }
 }
 
-// The seven numbers of a cause, zeros where nothing is refused.
-pub fn put_cause(cause: Result<(), Cause>, list: &mut [u8])
-    requires { length list.old ≡ 56 }
-    ensures { list.new ≡ encoded (cause_numbers (told cause)) }
+// The numbers of a cause, zeros where nothing is refused.
+pub fn numbers_of(outcome: Result<(), Cause>) -> CauseNumbers
+    ensures { as_cause result ≡ told outcome }
 {
-    let seven = match cause {
-        Ok(()) => [0; 7],
-        Err(cause) => [
-            i64::from(u32::from(cause.refusal)),
-            i64::from(part_of(cause.place)),
-            i64::from(number_of(cause.place)),
-            i64::from(field_of(cause.place)),
-            cause.found,
-            cause.least,
-            cause.most,
-        ],
-    };
+    match outcome {
+        Ok(()) => no_numbers(),
+        Err(cause) => CauseNumbers {
+            refusal: u32::from(cause.refusal),
+            part: part_of(cause.place),
+            number: number_of(cause.place),
+            field: field_of(cause.place),
+            found: cause.found,
+            least: cause.least,
+            most: cause.most,
+        },
+    }
+}
+
+// The seven numbers of a cause, written.
+pub fn put_cause(cause: CauseNumbers, list: &mut [u8])
+    requires { length list.old ≡ 56 }
+    ensures { list.new ≡ encoded (cause_numbers (as_cause cause)) }
+{
+    let seven = [
+        i64::from(cause.refusal),
+        i64::from(cause.part),
+        i64::from(cause.number),
+        i64::from(cause.field),
+        cause.found,
+        cause.least,
+        cause.most,
+    ];
     numbers::write_all(&seven, list);
 }

@@ -49,12 +49,12 @@ fn write_nets(congestion_charges: &[i64], loss_charges: &[i64], credit: &[i64], 
 }
 
 // What a split of the surplus is refused for: a number beyond the split's ranges is a surplus or a share beyond its own.
-fn of_surplus(refusal: Refusal) -> Refusal
-    ensures { number result ≡ pick (eqb (number refusal) 2) 10 (number refusal) }
+fn of_surplus(refusal: Refusal) -> Result<(), Refusal>
+    ensures { answer result ≡ pick (eqb (number refusal) 2) 10 (number refusal) }
 {
     match refusal {
-        Refusal::Range => Refusal::Surplus,
-        other => other,
+        Refusal::Range => Err(Refusal::Surplus),
+        other => Err(other),
     }
 }
 
@@ -72,7 +72,7 @@ pub fn bill(
 {
     let surplus = ints::sum(loss);
     if let Err(refusal) = split_amount::split_in_place(surplus, credit) {
-        return Err(of_surplus(refusal));
+        return of_surplus(refusal);
     }
     write_nets(congestion, loss, credit, net);
     Ok(())

@@ -58,12 +58,25 @@ fn hand_out(given: Given, loads: &[i64], table: &mut [i64]) -> Result<(), Refusa
     ensures added_cells { let d = given_of given.entry in answer result ≡ 0 → AddedCells (buses d) (Inside·handed (buses d) d.area_parts d.contracts (identity d.distributor) d.tranches (λ b. loads.now at b)) table.old table.new }
 {
     let mut contracted = [0i64; 64];
-    load_hand_out::hand_contracts(given, table, &mut contracted);
+    load_hand_out::hand_contracts(
+        given.loads.len(),
+        given.area_parts,
+        given.contracts,
+        table,
+        &mut contracted,
+    );
     if !all_covered(&contracted, loads) {
         return Err(Refusal::Contracts);
     }
     let distributor = ints::size(given.distributor) as usize;
-    load_hand_out::hand_rests(distributor, given.tranches, loads, &contracted, table);
+    load_hand_out::hand_rests(
+        given.loads.len(),
+        loads,
+        &contracted,
+        distributor,
+        given.tranches,
+        table,
+    );
     Ok(())
 }
 

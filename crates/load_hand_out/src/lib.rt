@@ -6,12 +6,9 @@ ghost use Rattle.ints.specs.InsideRange.{Within};
 ghost use Rattle.ints.specs.Sum.{only, one};
 ghost use Rattle.ints.specs.Table.{◌at◌};
 ghost use Rattle.split.specs.Split.{total as Split·total, parts as Split·parts};
-ghost use Rattle.load.specs.Load.{identity, supplier, buses, contract_count, contract_at, contract_load, contracted as Load·contracted, auctioned};
-ghost use Rattle.load.specs.Given.{given_of};
+ghost use Rattle.load.specs.Load.{identity, supplier, contract_count, contract_at, contract_load, contracted as Load·contracted, auctioned};
 ghost use Rattle.load.specs.InsideTable.{Room, Spread, Cells, AddedCells};
 ghost use Rattle.load.specs.Inside.{Splittable, RoomInTables, Contracts, Empty, Auction as Inside·Auction, Packed, Won, won_part, Ranged, Remainings};
-
-use load::Given;
 
 // ---- Lists and the table.
 
@@ -67,34 +64,42 @@ fn hand_parts(
 
 // Contract j, by itself.
 fn hand_contract(
-    given: Given,
     j: usize,
+    n: usize,
+    area_parts: &[i64],
+    contracts: &[i64],
     made: &mut [i64],
     table: &mut [i64],
     contracted: &mut [i64],
 )
-    requires contracts { let d = given_of given in Contracts (buses d) d.area_parts d.contracts × (j < contract_count d.contracts) }
-    requires room_in_tables { RoomInTables (length given.loads.now) table.old contracted.old × (length made.old ≡ 64) }
-    ensures added_cells { let d = given_of given.entry in AddedCells (buses d) (λ p b. only (eqb (identity (supplier d.contracts j)) p) (contract_at (buses d) d.area_parts d.contracts j b)) table.old table.new }
-    ensures added_cells_2 { let d = given_of given.entry in AddedCells (buses d) (λ p b. only (eqb 0 p) (contract_at (buses d) d.area_parts d.contracts j b)) contracted.old contracted.new }
+    requires contracts { Contracts n area_parts.now contracts.now × (j < contract_count contracts.now) }
+    requires room_in_tables { RoomInTables n table.old contracted.old × (length made.old ≡ 64) }
+    ensures added_cells { AddedCells n (λ p b. only (eqb (identity (supplier contracts.now j)) p) (contract_at n area_parts.now contracts.now j b)) table.old table.new }
+    ensures added_cells_2 { AddedCells n (λ p b. only (eqb 0 p) (contract_at n area_parts.now contracts.now j b)) contracted.old contracted.new }
 {
-    let contract = load::contract_at(given.contracts, j);
+    let contract = load::contract_at(contracts, j);
     let supplier = ints::size(contract.supplier) as usize;
     let area = ints::size(contract.area) as usize;
-    let shares = load::parts_of(given.loads.len(), area, given.area_parts);
+    let shares = load::parts_of(n, area, area_parts);
     hand_parts(supplier, contract.kw, shares, made, table, contracted);
 }
 
-// All contracts, one after the other.
-pub fn hand_contracts(given: Given, table: &mut [i64], contracted: &mut [i64])
-    requires contracts { let d = given_of given in Contracts (buses d) d.area_parts d.contracts }
-    requires empty { Empty (length given.loads.now) table.old contracted.old }
-    ensures added_cells { let d = given_of given.entry in AddedCells (buses d) (contract_load (buses d) d.area_parts d.contracts) table.old table.new }
-    ensures added_cells_2 { let d = given_of given.entry in AddedCells (buses d) (λ p b. only (eqb 0 p) (Load·contracted (buses d) d.area_parts d.contracts b)) contracted.old contracted.new }
+// All contracts, one after the other, at n buses.
+pub fn hand_contracts(
+    n: usize,
+    area_parts: &[i64],
+    contracts: &[i64],
+    table: &mut [i64],
+    contracted: &mut [i64],
+)
+    requires contracts { Contracts n area_parts.now contracts.now }
+    requires empty { Empty n table.old contracted.old }
+    ensures added_cells { AddedCells n (contract_load n area_parts.now contracts.now) table.old table.new }
+    ensures added_cells_2 { AddedCells n (λ p b. only (eqb 0 p) (Load·contracted n area_parts.now contracts.now b)) contracted.old contracted.new }
 {
     let mut made = [0i64; 64];
-    for j in 0..given.contracts.len() / 3 {
-        hand_contract(given, j, &mut made, table, contracted);
+    for j in 0..contracts.len() / 3 {
+        hand_contract(j, n, area_parts, contracts, &mut made, table, contracted);
     }
 }
 
@@ -162,30 +167,31 @@ fn hand_rest(
     add_won(table, bus, n, auction.winners, parts);
 }
 
-// What remains at each bus, of which there are as many as loads.
-fn hand_won(auction: Auction, loads: &[i64], contracted: &[i64], table: &mut [i64])
-    requires won { Won auction.distributor auction.won.now auction.winners.now × (auction.total ≡ Split·total auction.won.now) × Remainings (length loads.now) loads.now contracted.now }
-    requires n_bound { (length loads.now ≤ 64) × (length table.old ≡ 64 * length loads.now) × Cells (length loads.now) table.old 100000000000 }
-    ensures { let a = auction.entry in AddedCells (length loads.now) (λ p b. won_part a.distributor a.won.now a.winners.now (loads.now at b -ℤ contracted.now at b) p) table.old table.new }
+// What remains at each of n buses.
+fn hand_won(auction: Auction, n: usize, loads: &[i64], contracted: &[i64], table: &mut [i64])
+    requires won { Won auction.distributor auction.won.now auction.winners.now × (auction.total ≡ Split·total auction.won.now) × Remainings n loads.now contracted.now }
+    requires n_bound { (n ≤ 64) × (length table.old ≡ 64 * n) × Cells n table.old 100000000000 }
+    ensures { let a = auction.entry in AddedCells n (λ p b. won_part a.distributor a.won.now a.winners.now (loads.now at b -ℤ contracted.now at b) p) table.old table.new }
 {
     let mut made = [0i64; 64];
-    for (b, load) in loads.iter().enumerate() {
-        let remaining = *load - contracted[b];
-        hand_rest(auction, loads.len(), b, remaining, &mut made, table);
+    for b in 0..n {
+        let remaining = loads[b] - contracted[b];
+        hand_rest(auction, n, b, remaining, &mut made, table);
     }
 }
 
-// What remains at each bus. A split with the tranches of 0 left out is the same split, and shorter.
+// What remains at each of n buses, which stand in the front of both lists. A split with the tranches of 0 left out is the same split, and shorter.
 pub fn hand_rests(
-    distributor: usize,
-    tranches: &[i64],
+    n: usize,
     loads: &[i64],
     contracted: &[i64],
+    distributor: usize,
+    tranches: &[i64],
     table: &mut [i64],
 )
-    requires auction { Inside·Auction (length loads.now) distributor tranches.now × Remainings (length loads.now) loads.now contracted.now }
-    requires table_len { (length table.old ≡ 64 * length loads.now) × Cells (length loads.now) table.old 100000000000 }
-    ensures { AddedCells (length loads.now) (λ p b. auctioned distributor tranches.now (loads.now at b -ℤ contracted.now at b) p) table.old table.new }
+    requires auction { Inside·Auction n distributor tranches.now × Remainings n loads.now contracted.now }
+    requires table_len { (length table.old ≡ 64 * n) × Cells n table.old 100000000000 }
+    ensures { AddedCells n (λ p b. auctioned distributor tranches.now (loads.now at b -ℤ contracted.now at b) p) table.old table.new }
 {
     let mut won = [0i64; 64];
     let mut winners = [0usize; 64];
@@ -197,5 +203,5 @@ pub fn hand_rests(
         winners: &winners[..m],
         total: split_parts::total_of(won),
     };
-    hand_won(auction, loads, contracted, table);
+    hand_won(auction, n, loads, contracted, table);
 }

@@ -202,7 +202,7 @@ pub extern "C" fn wz_find_cause(file: &[u8], cause: &mut [u8]) -> u32
     if cause.len() != 56 {
         return 1;
     }
-    hour_cause::put_cause(hour_find::find_cause(file), cause);
+    hour_cause::put_cause(hour_cause::numbers_of(hour_find::find_cause(file)), cause);
     0
 }
 
@@ -236,6 +236,9 @@ pub extern "C" fn wz_find_list_cause(
         rows: row_list,
         transactions: transaction_list,
     };
-    hour_cause::put_cause(exercise_list_cause::list_cause(counts, lists), cause);
+    hour_cause::put_cause(
+        hour_cause::numbers_of(exercise_list_cause::list_cause(counts, lists)),
+        cause,
+    );
     0
 }

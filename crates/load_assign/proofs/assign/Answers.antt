@@ -22,7 +22,7 @@ use Rattle.load.proofs.Accepted.{Tested, tested, naturals-of}
 use Rattle.load.proofs.Assigned.{length-bus-loads, bus-load-ranged, cover-ext, assignment-is}
 use Rattle.load.proofs.Tables.{added-zeros, cleared}
 use Rattle.load_assign.proofs.assign.Goals as goal
-use Rattle.load_assign.proofs.assign.Goals.{In_ok-lists_refusal, In_ok-bus_loads, Start}
+use Rattle.load_assign.proofs.assign.Goals.{In_ok-bus_loads, Start}
 
 abbrev d : Start → LoadGiven
 d s = given_of s.args.given
@@ -43,26 +43,20 @@ not-zero : (r : Result ⊤ Refusal) (e : Refusal) → r ≡ Err e → answer r �
 not-zero r e is z = number-not-zero e (sym (ap answer is) ∙ z)
 
 -- ---- 1 to 5 have passed
-module _ (c : In_ok-lists_refusal) where
-  abbrev s : Start
-  s = (goal.at.In_ok-lists_refusal c).Start
-
+module _ (s : Start) (passed : lists_refusal (d s) (length s.args.out.now) ≡ 0) where
   facts : Tested (d s) (length s.args.out.now)
-  facts = tested (d s) (length s.args.out.now) (sym c.in_ok-lists_refusal.ensures)
+  facts = tested (d s) (length s.args.out.now) passed
 
   after1 : load_refusal (d s) (length s.args.out.now) ≡ (g2 (d s) then g3 (d s))
-  after1 = groups (d s) (length s.args.out.now) ∙ then-later _ _ (sym c.in_ok-lists_refusal.ensures)
+  after1 = groups (d s) (length s.args.out.now) ∙ then-later _ _ passed
 
   few : length s.args.given.loads.now ≤ 64
   few = facts.counts-pass.few
 
 -- ---- so have 6 and 7
 module _ (b : In_ok-bus_loads) where
-  abbrev e1 : In_ok-lists_refusal
-  e1 = (goal.at.In_ok-bus_loads b).In_ok-lists_refusal
-
   abbrev s1 : Start
-  s1 = s e1
+  s1 = (goal.at.In_ok-bus_loads b).Start
 
   abbrev served : List ℤ
   served = b.bus_loads.new.served
@@ -70,8 +64,8 @@ module _ (b : In_ok-bus_loads) where
   accepted : g2 (d s1) ≡ 0
   accepted = sym b.in_ok-bus_loads.ensures.value
 
-  after2 : load_refusal (d s1) (length s1.args.out.now) ≡ g3 (d s1)
-  after2 = after1 e1 ∙ then-later _ _ accepted
+  after2 : lists_refusal (d s1) (length s1.args.out.now) ≡ 0 → load_refusal (d s1) (length s1.args.out.now) ≡ g3 (d s1)
+  after2 passed = after1 s1 passed ∙ then-later _ _ accepted
 
   served-is : served ≡ bus_loads (d s1).metered (d s1).loads (d s1).imports (d s1).generation
   served-is = b.in_ok-bus_loads.ensures.served_after
@@ -94,28 +88,29 @@ returns-in_err-lists_refusal c =
     let made = kept (load_refusal g (length c.args.out.now)) (assignment g) c.args.out.now (answer c.from_residual.result) some (first ∙ sym (groups g (length c.args.out.now) ∙ then-earlier _ _ (λ z. some (first ∙ z)))) in record { value = made.0; out_after = made.1 }
 
 pub slice_bounds-served-end : goal.slice_bounds-served-end
-slice_bounds-served-end c = few c
+slice_bounds-served-end c = few (goal.at.slice_bounds-served-end c).Start (sym c.in_ok-lists_refusal.ensures)
 
 pub slice_bounds-loads-end : goal.slice_bounds-loads-end
-slice_bounds-loads-end c = sym (length-take-le (length c.args.given.loads.now) _ (few (goal.at.slice_bounds-loads-end c).In_ok-lists_refusal))
+slice_bounds-loads-end c = sym (length-take-le (length c.args.given.loads.now) _ (few (goal.at.slice_bounds-loads-end c).Start (sym c.in_ok-lists_refusal.ensures)))
 
 pub bus_loads-requires : goal.bus_loads-requires
-bus_loads-requires c = let e = (goal.at.bus_loads-requires c).In_ok-lists_refusal in ((facts e).meters-given, length-take-le (length c.args.given.loads.now) _ (few e))
+bus_loads-requires c = let s = (goal.at.bus_loads-requires c).Start in
+    let f = facts s (sym c.in_ok-lists_refusal.ensures) in (f.meters-given, length-take-le (length c.args.given.loads.now) _ f.counts-pass.few)
 
 pub returns-in_err-bus_loads : goal.returns-in_err-bus_loads
 returns-in_err-bus_loads c =
     let q = c.from_residual-in_err-bus_loads in
     let p = err_from_is_err_and q.result q.ensures.1 in
-    let e = (goal.at.returns-in_err-bus_loads c).In_ok-lists_refusal in
-    let g = d (s e) in
+    let s = (goal.at.returns-in_err-bus_loads c).Start in
+    let g = d s in
     let some = not-zero q.result p.0 p.1 in
     let first : answer q.result ≡ g2 g = ap answer p.1 ∙ ap number p.2 ∙ c.in_err-bus_loads.ensures.value in
-    let made = kept (load_refusal g (length c.args.out.now)) (assignment g) c.args.out.now (answer q.result) some (first ∙ sym (after1 e ∙ then-earlier _ _ (λ z. some (first ∙ z)))) in record { value = made.0; out_after = made.1 }
+    let made = kept (load_refusal g (length c.args.out.now)) (assignment g) c.args.out.now (answer q.result) some (first ∙ sym (after1 s (sym c.in_ok-lists_refusal.ensures) ∙ then-earlier _ _ (λ z. some (first ∙ z)))) in record { value = made.0; out_after = made.1 }
 
 pub hand_out-requires : goal.hand_out-requires
 hand_out-requires c =
     let b = (goal.at.hand_out-requires c).In_ok-bus_loads in
-    let f = facts (e1 b) in
+    let f = facts (s1 b) (sym c.in_ok-lists_refusal.ensures) in
     let g = d (s1 b) in
     record {
       contracts = (f.contracts-given, f.auction-given);
@@ -133,7 +128,7 @@ pub returns-in-Err : goal.returns-in-Err
 returns-in-Err c =
     let b = (goal.at.returns-in-Err c).In_ok-bus_loads in
     let g = d (s1 b) in
-    let r = kept (load_refusal g (length c.args.out.now)) (assignment g) c.args.out.now (number c.in-Err.refusal) (number-not-zero c.in-Err.refusal) (c.in-Err.ensures.value ∙ (cover-is b ∙ sym (after2 b))) in
+    let r = kept (load_refusal g (length c.args.out.now)) (assignment g) c.args.out.now (number c.in-Err.refusal) (number-not-zero c.in-Err.refusal) (c.in-Err.ensures.value ∙ (cover-is b ∙ sym (after2 b (sym c.in_ok-lists_refusal.ensures)))) in
     record {
       value = r.0;
       out_after = c.clear.ensures ∙ cleared _ ∙ ap (λ (n : ℕ). replicate n (pos 0)) c.hand_out.auto.table ∙ sym c.requires ∙ r.1;
@@ -143,10 +138,11 @@ pub returns : goal.returns
 returns c =
     let b = (goal.at.returns c).In_ok-bus_loads in
     let g = d (s1 b) in
-    let f = facts (e1 b) in
+    let passed : lists_refusal g (length c.args.out.now) ≡ 0 = sym c.in_ok-lists_refusal.ensures in
+    let f = facts (s1 b) passed in
     let table = c.hand_out.new.table in
     let added = c.in_default.ensures.added_cells refl in
     let result : table ≡ assignment g = assignment-is g table f.counts-pass.some (added.same ∙ f.lengths-pass.result-long)
     (λ p k u l. added-zeros (length c.args.out.now) c.requires added p k u l
     ∙ ap (λ (z : ℤ). contract_load (buses g) g.area_parts g.contracts p k +ℤ auctioned (identity g.distributor) g.tranches (z -ℤ contracted (buses g) g.area_parts g.contracts k) p) (served-at b k l)) in
-    let made = done (load_refusal g (length c.args.out.now)) (assignment g) c.args.out.now table (c.in_default.ensures.value ∙ (cover-is b ∙ sym (after2 b))) result in record { value = made.0; out_after = made.1 }
+    let made = done (load_refusal g (length c.args.out.now)) (assignment g) c.args.out.now table (c.in_default.ensures.value ∙ (cover-is b ∙ sym (after2 b passed))) result in record { value = made.0; out_after = made.1 }

@@ -101,17 +101,14 @@ hand_rests-requires c =
     added-cells 100000000000 x.hand_contracts.ensures.added_cells (zero-cells (64 * n x) t.requires.loads.2 (n x)) (load-within (n x) t.args.given.area_parts.now t.args.given.contracts.now t.requires.contracts.0 (contract_count t.args.given.contracts.now) (omega arith)) (omega arith) in
     record {
       auction = (
-        rw (same x, named (goal.at.hand_rests-requires c).After-size-distributor) t.requires.contracts.1,
+        rw (named (goal.at.hand_rests-requires c).After-size-distributor) t.requires.contracts.1,
         record {
-          loads-there = omega arith;
-          contracted-there = omega (arith, x.hand_contracts.ensures.added_cells_2.same, t.requires.contracts.0.buses, same x);
-          each = λ b l. left e b (omega (arith, same x));
+          loads-there = t.requires.loads.0.there;
+          contracted-there = omega (arith, x.hand_contracts.ensures.added_cells_2.same, t.requires.contracts.0.buses);
+          each = left e;
         },
       );
-      table_len = (
-        omega (arith, x.hand_contracts.ensures.added_cells.same, ap length t.requires.loads.2, length-replicate (64 * n x) (pos 0), same x),
-        subst (λ (m : ℕ). Cells m x.hand_contracts.new.table 100000000000) (sym (same x)) cells,
-      );
+      table_len = (x.hand_contracts.ensures.added_cells.same ∙ ap length t.requires.loads.2 ∙ length-replicate (64 * n x) (pos 0), cells);
     }
 
 pub returns-clause-value : goal.returns-clause-value
@@ -122,7 +119,6 @@ returns-clause-added_cells c =
     let x = (goal.at.returns-clause-added_cells c).After-hand_contracts in
     let t = s x in
     let rests : AddedCells (n x) (λ p b. auctioned (identity t.args.given.distributor) t.args.given.tranches.now (loads x at b -ℤ summed x at b) p) x.hand_contracts.new.table c.hand_rests.new.table =
-    subst (λ (m : ℕ). AddedCells m (λ p b. auctioned (identity t.args.given.distributor) t.args.given.tranches.now (loads x at b -ℤ summed x at b) p) x.hand_contracts.new.table c.hand_rests.new.table) (same x)
-    (subst (λ (q : ℕ). AddedCells (length (loads x)) (λ p b. auctioned q t.args.given.tranches.now (loads x at b -ℤ summed x at b) p) x.hand_contracts.new.table c.hand_rests.new.table) (named (goal.at.returns-clause-added_cells c).After-size-distributor) c.hand_rests.ensures) in
+    subst (λ (q : ℕ). AddedCells (n x) (λ p b. auctioned q t.args.given.tranches.now (loads x at b -ℤ summed x at b) p) x.hand_contracts.new.table c.hand_rests.new.table) (named (goal.at.returns-clause-added_cells c).After-size-distributor) c.hand_rests.ensures in
     λ _. added_then _ x.hand_contracts.ensures.added_cells rests
     (λ p b _ l. ap (λ (z : ℤ). contract_load (n x) t.args.given.area_parts.now t.args.given.contracts.now p b +ℤ auctioned (identity t.args.given.distributor) t.args.given.tranches.now (loads x at b -ℤ z) p) (summed_at x b l))

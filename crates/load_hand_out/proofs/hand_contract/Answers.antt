@@ -27,24 +27,24 @@ module _ (x : After-parts_of-shares) where
   abbrev shares : List ℤ
   shares = x.parts_of-shares.result.now
 
-  supplier-is : x.size-supplier.result ≡ identity (supplier s.args.given.contracts.now s.args.j)
+  supplier-is : x.size-supplier.result ≡ identity (supplier s.args.contracts.now s.args.j)
   supplier-is = x.size-supplier.ensures ∙ ap nat_abs (to_z-of_z {w = w64} {z = x.contract_at-contract.result.supplier} (search rules) ∙ x.contract_at-contract.ensures.supplier_is)
 
-  area-is : x.size-area.result ≡ identity (area s.args.given.contracts.now s.args.j)
+  area-is : x.size-area.result ≡ identity (area s.args.contracts.now s.args.j)
   area-is = x.size-area.ensures ∙ ap nat_abs (to_z-of_z {w = w64} {z = x.contract_at-contract.result.area} (search rules) ∙ x.contract_at-contract.ensures.area_is)
 
-  kw-is : to_z w64 (of_z w64 x.contract_at-contract.result.kw) ≡ kw s.args.given.contracts.now s.args.j
+  kw-is : to_z w64 (of_z w64 x.contract_at-contract.result.kw) ≡ kw s.args.contracts.now s.args.j
   kw-is = to_z-of_z {w = w64} {z = x.contract_at-contract.result.kw} (search rules) ∙ x.contract_at-contract.ensures.kw_is
 
-  shares-are : shares ≡ parts_of (length s.args.given.loads.now) s.args.given.area_parts.now (identity (area s.args.given.contracts.now s.args.j))
-  shares-are = x.parts_of-shares.ensures.parts ∙ ap (parts_of (length s.args.given.loads.now) s.args.given.area_parts.now) area-is
+  shares-are : shares ≡ parts_of s.args.n s.args.area_parts.now (identity (area s.args.contracts.now s.args.j))
+  shares-are = x.parts_of-shares.ensures.parts ∙ ap (parts_of s.args.n s.args.area_parts.now) area-is
 
-  long : length shares ≡ (length s.args.given.loads.now)
-  long = ap length shares-are ∙ length-stretch (length s.args.given.loads.now) s.args.given.area_parts.now (identity (area s.args.given.contracts.now s.args.j)) (s.requires.contracts.0.placed s.args.j s.requires.contracts.1)
+  long : length shares ≡ s.args.n
+  long = ap length shares-are ∙ length-stretch s.args.n s.args.area_parts.now (identity (area s.args.contracts.now s.args.j)) (s.requires.contracts.0.placed s.args.j s.requires.contracts.1)
 
   -- what was handed on is what the contract comes to
   given : (q : ℕ) {r : ℕ} {before after : List ℤ} → q ≡ r → AddedCells (length shares) (λ p b. only (eqb q p) (parts (to_z w64 (of_z w64 x.contract_at-contract.result.kw)) shares at b)) before after
-      → AddedCells (length s.args.given.loads.now) (λ p b. only (eqb r p) (contract_at (length s.args.given.loads.now) s.args.given.area_parts.now s.args.given.contracts.now s.args.j b)) before after
+      → AddedCells s.args.n (λ p b. only (eqb r p) (contract_at s.args.n s.args.area_parts.now s.args.contracts.now s.args.j b)) before after
   unfolding contract_at
   given q {r} {before} {after} e a =
       added-same _ (subst (λ (n : ℕ). AddedCells n (λ p b. only (eqb q p) (parts (to_z w64 (of_z w64 x.contract_at-contract.result.kw)) shares at b)) before after) long a)

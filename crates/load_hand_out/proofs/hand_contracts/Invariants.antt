@@ -5,4 +5,4 @@ use mathlib.Core.Path.{◌≡◌}
 use Rattle.load_hand_out.proofs.hand_contracts.Given as goal
 
 abbrev pub invariant-loop-j : goal.invariant-loop-j
-invariant-loop-j l = AddedCells (length l.given.loads.now) (first_load (length l.given.loads.now) l.given.area_parts.now l.given.contracts.now l.j) l.initial.table l.table × AddedCells (length l.given.loads.now) (first_all (length l.given.loads.now) l.given.area_parts.now l.given.contracts.now l.j) l.initial.contracted l.contracted × (length l.made ≡ 64)
+invariant-loop-j l = AddedCells l.n (first_load l.n l.area_parts l.contracts l.j) l.initial.table l.table × AddedCells l.n (first_all l.n l.area_parts l.contracts l.j) l.initial.contracted l.contracted × (length l.made ≡ 64)

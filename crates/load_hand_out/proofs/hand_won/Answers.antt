@@ -51,13 +51,13 @@ hand_rest-requires c = let s = start (goal.at.hand_rest-requires c).At-loop-b in
     c.loop-b-test.true,
     s.requires.n_bound.0,
     c.loop-b.invariant.0.same ∙ s.requires.n_bound.1,
-    rests-small (give (goal.at.hand_rest-requires c).Start) (length s.args.loads.now) s.args.loads.now s.args.contracted.now c.loop-b.b (λ z p g. won-within s.args.auction.distributor s.args.auction.won.now s.args.auction.winners.now z p s.requires.won.0 g) s.requires.won.2 s.requires.n_bound.2 c.loop-b.invariant.0,
+    rests-small (give (goal.at.hand_rest-requires c).Start) s.args.n s.args.loads.now s.args.contracted.now c.loop-b.b (λ z p g. won-within s.args.auction.distributor s.args.auction.won.now s.args.auction.winners.now z p s.requires.won.0 g) s.requires.won.2 s.requires.n_bound.2 c.loop-b.invariant.0,
   );
 }
 
 pub loop-b-preserved : goal.loop-b-preserved
 loop-b-preserved c = let s = start (goal.at.loop-b-preserved c).At-loop-b in (
-  rests-next (give (goal.at.loop-b-preserved c).Start) (length s.args.loads.now) s.args.loads.now s.args.contracted.now c.loop-b.b c.loop-b.invariant.0
-      (subst (λ (z : ℤ). AddedCells (length s.args.loads.now) (λ p b. only (eqb c.loop-b.b b) (give (goal.at.loop-b-preserved c).Start z p)) c.loop-b.table c.hand_rest.new.table) (remaining (goal.at.loop-b-preserved c).After-remaining-in-loop-b-1) c.hand_rest.ensures),
+  rests-next (give (goal.at.loop-b-preserved c).Start) s.args.n s.args.loads.now s.args.contracted.now c.loop-b.b c.loop-b.invariant.0
+      (subst (λ (z : ℤ). AddedCells s.args.n (λ p b. only (eqb c.loop-b.b b) (give (goal.at.loop-b-preserved c).Start z p)) c.loop-b.table c.hand_rest.new.table) (remaining (goal.at.loop-b-preserved c).After-remaining-in-loop-b-1) c.hand_rest.ensures),
   c.hand_rest.auto.made ∙ c.loop-b.invariant.1,
 )
